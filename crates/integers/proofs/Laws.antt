@@ -1,0 +1,13 @@
+pub mod Ring
+pub mod Normaliser
+pub mod Magnitude
+pub mod Order
+pub mod Division
+pub mod Bits
+pub mod Divisibility
+pub mod Sum
+pub mod Gcd
+pub mod NonDivisor
+pub mod Below
+pub mod Decide
+pub mod Run

@@ -1,0 +1,111 @@
+-- Laws of `allBelow` and `anyBelow`, the tests at the places 0, .., n - 1.
+--
+--     Turns     all-none   any-none       n = 0: true; false
+--               all-more   any-more       at the code's n + 1
+--     All       all-each       true: true at each place      all-true     the other way round
+--               all-false      false at a place: false       all-same     the same tests: the same answer
+--     Any       any-each       false: false at each place    any-false    the other way round
+--               any-true       true at a place: true         any-place    true: a place at which it is true
+--
+-- Assumes nothing.
+use mathlib.Core.Path.{_≡_, refl, sym, _∙_, ap, ap₂}
+use mathlib.Core.Bool.{Bool, true, false, _&&_, _||_, true≢false, false≢true}
+use Prim.Native.Nat.{ℕ, zero, suc, _+_, _<_}
+use native.Mathlib.Numerals.{add-one}
+use native.Mathlib.Omega.{arith}
+use native.Mathlib.Decide.{ℕ-discrete}
+use Rattle.integers.specs.Below.{allBelow, anyBelow}
+
+-- Turns ----------------------------------------------------------------------------------------------------------------
+
+pub all-none : (t : ℕ → Bool) → allBelow 0 t ≡ true
+unfolding allBelow
+all-none t = refl
+
+pub any-none : (t : ℕ → Bool) → anyBelow 0 t ≡ false
+unfolding anyBelow
+any-none t = refl
+
+pub all-more : (n : ℕ) (t : ℕ → Bool) → allBelow (n + 1) t ≡ allBelow n t && t n
+unfolding allBelow
+all-more n t = rw add-one
+
+pub any-more : (n : ℕ) (t : ℕ → Bool) → anyBelow (n + 1) t ≡ anyBelow n t || t n
+unfolding anyBelow
+any-more n t = rw add-one
+
+-- All ------------------------------------------------------------------------------------------------------------------
+
+and-parts : (a b : Bool) → a && b ≡ true → (a ≡ true) × (b ≡ true)
+and-parts true b e = (refl, e)
+and-parts false b e = absurd (false≢true e)
+
+and-false : (a b : Bool) → b ≡ false → a && b ≡ false
+and-false true b e = e
+and-false false b e = refl
+
+pub all-each : (n : ℕ) (t : ℕ → Bool) → allBelow n t ≡ true → (i : ℕ) → i < n → t i ≡ true
+unfolding allBelow
+all-each zero t e i h = absurd (omega arith)
+all-each (suc n) t e i h = let p = and-parts (allBelow n t) (t n) e in elim (ℕ-discrete i n) [
+  | yes r ↦ ap t r ∙ p .1
+  | no r ↦ all-each n t (p .0) i (omega arith)
+]
+
+pub all-true : (n : ℕ) (t : ℕ → Bool) → ((i : ℕ) → i < n → t i ≡ true) → allBelow n t ≡ true
+unfolding allBelow
+all-true zero t h = refl
+all-true (suc n) t h = ap₂ (λ (a b : Bool). a && b) (all-true n t (λ i l. h i (omega arith))) (h n (omega arith))
+
+pub all-false : (n : ℕ) (t : ℕ → Bool) (i : ℕ) → i < n → t i ≡ false → allBelow n t ≡ false
+unfolding allBelow
+all-false zero t i h e = absurd (omega arith)
+all-false (suc n) t i h e = elim (ℕ-discrete i n) [
+  | yes r ↦ and-false (allBelow n t) (t n) (ap t (sym r) ∙ e)
+  | no r ↦ ap (λ (a : Bool). a && t n) (all-false n t i (omega arith) e)
+]
+
+pub all-same : (n : ℕ) (t u : ℕ → Bool) → ((i : ℕ) → i < n → t i ≡ u i) → allBelow n t ≡ allBelow n u
+unfolding allBelow
+all-same zero t u h = refl
+all-same (suc n) t u h = ap₂ (λ (a b : Bool). a && b) (all-same n t u (λ i l. h i (omega arith))) (h n (omega arith))
+
+-- Any ------------------------------------------------------------------------------------------------------------------
+
+or-parts : (a b : Bool) → a || b ≡ false → (a ≡ false) × (b ≡ false)
+or-parts true b e = absurd (true≢false e)
+or-parts false b e = (refl, e)
+
+or-true : (a b : Bool) → b ≡ true → a || b ≡ true
+or-true true b e = refl
+or-true false b e = e
+
+pub any-each : (n : ℕ) (t : ℕ → Bool) → anyBelow n t ≡ false → (i : ℕ) → i < n → t i ≡ false
+unfolding anyBelow
+any-each zero t e i h = absurd (omega arith)
+any-each (suc n) t e i h = let p = or-parts (anyBelow n t) (t n) e in elim (ℕ-discrete i n) [
+  | yes r ↦ ap t r ∙ p .1
+  | no r ↦ any-each n t (p .0) i (omega arith)
+]
+
+pub any-false : (n : ℕ) (t : ℕ → Bool) → ((i : ℕ) → i < n → t i ≡ false) → anyBelow n t ≡ false
+unfolding anyBelow
+any-false zero t h = refl
+any-false (suc n) t h = ap₂ (λ (a b : Bool). a || b) (any-false n t (λ i l. h i (omega arith))) (h n (omega arith))
+
+pub any-true : (n : ℕ) (t : ℕ → Bool) (i : ℕ) → i < n → t i ≡ true → anyBelow n t ≡ true
+unfolding anyBelow
+any-true zero t i h e = absurd (omega arith)
+any-true (suc n) t i h e = elim (ℕ-discrete i n) [
+  | yes r ↦ or-true (anyBelow n t) (t n) (ap t (sym r) ∙ e)
+  | no r ↦ ap (λ (a : Bool). a || t n) (any-true n t i (omega arith) e)
+]
+
+pub any-place : (n : ℕ) (t : ℕ → Bool) → anyBelow n t ≡ true → (i : ℕ) × (i < n) × (t i ≡ true)
+unfolding anyBelow
+any-place zero t e = absurd (false≢true e)
+any-place (suc n) t e = go (anyBelow n t) refl e (any-place n t)
+  where
+    go : (a : Bool) → anyBelow n t ≡ a → a || t n ≡ true → (anyBelow n t ≡ true → (i : ℕ) × (i < n) × (t i ≡ true)) → (i : ℕ) × (i < suc n) × (t i ≡ true)
+    go true r f earlier = let p = earlier r in (p .0, omega (arith, p .1), p .2)
+    go false r f earlier = (n, omega arith, f)
