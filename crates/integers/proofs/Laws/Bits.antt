@@ -28,7 +28,7 @@
 -- All of it is for 64 bits, the one width of signed numbers here. Assumes nothing.
 use mathlib.Core.Path.{_≡_, refl, sym, _∙_, ap, ap₂, subst⁻¹}
 use mathlib.Core.Bool.{Bool, true, false}
-use Prim.Native.Nat.{ℕ, zero, suc, _+_, _*_, _-_, _<_, _≤_, _^_}
+use Prim.Native.Nat.{ℕ, suc, _+_, _*_, _-_, _<_, _≤_, _^_}
 use native.Mathlib.Nat.{pos-of-ne-zero, lt-of-le-of-lt}
 use native.Mathlib.Omega.{arith}
 use borrow.Author.Tests.{ne-eqb}
@@ -39,7 +39,7 @@ use mir.Syntax.{w64}
 use mir.Val.{SFits, toZ, ofZ, sel}
 use mir.ValLaws.{toZ-ofZ, toZ-pos}
 use Rattle.integers.specs.Range.{isZero}
-use Rattle.integers.proofs.Laws.Magnitude.{natAbs-sub, add-bound, sub-bound, mul-bound, natAbs-pos}
+use Rattle.integers.proofs.Laws.Magnitude.{natAbs-sub, add-bound, sub-bound, mul-bound}
 use Rattle.integers.proofs.Laws.Division.{quot-le}
 
 -- what is read back where z was stored

@@ -11,10 +11,9 @@
 --                     by-same                           the statement replaced by an equivalent one
 --
 -- Assumes nothing.
-use mathlib.Core.Path.{_≡_, refl, sym, _∙_, ap, subst}
+use mathlib.Core.Path.{_≡_, refl, sym, _∙_, ap}
 use mathlib.Core.Bool.{Bool, true, false, not, _&&_, true≢false, false≢true}
-use Prim.Native.Nat.{ℕ, zero, suc, _<_, _≤_}
-use native.Mathlib.Omega.{arith}
+use Prim.Native.Nat.{ℕ, _<_, _≤_}
 use borrow.Author.Tests.{ltb-true, lt-ltb, leb-true, le-leb, eqb-true, eq-eqb}
 use lib.Dec.{leb, ltb, eqb}
 use lib.IntN.{ℤ, pos, natAbs}

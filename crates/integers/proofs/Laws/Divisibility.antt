@@ -28,14 +28,14 @@
 use mathlib.Core.Path.{_≡_, refl, sym, _∙_, ap, ap₂, subst}
 use mathlib.Core.Bool.{true, false}
 use mathlib.Core.List.{[], _∷_}
-use Prim.Native.Nat.{ℕ, zero, suc, _*_, _<_, _≤_}
+use Prim.Native.Nat.{ℕ, zero, suc, _*_, _≤_}
 use native.Mathlib.Nat.{le-antisymm}
 use native.Mathlib.Omega.{arith}
 use borrow.Author.Tests.{eqb-true, eqb-false, eq-eqb}
 use lib.IntN.{ℤ, pos, negsuc, negℤ, natAbs, _+ℤ_, _-ℤ_, _*ℤ_, *ℤ-zero, zero-*ℤ, *ℤ-comm}
 use lib.Signed.{quotZ, remZ}
 use Rattle.integers.specs.Divisibility.{_∣ℤ_, divides, Congruent}
-use Rattle.integers.proofs.Laws.Ring.{one-mul, mul-one, neg-mul, from1, from2, eq-of-sub, sub-self, sub-of-eq}
+use Rattle.integers.proofs.Laws.Ring.{one-mul, mul-one, from1, from2, eq-of-sub, sub-self, sub-of-eq}
 use Rattle.integers.proofs.Laws.Normaliser.{ring!, quote}
 use Rattle.integers.proofs.Laws.Magnitude.{natAbs-zero, natAbs-mul, mul-cancel}
 use Rattle.integers.proofs.Laws.Division.{quot-rem, rem-is, rem-mul}

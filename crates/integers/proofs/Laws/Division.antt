@@ -17,15 +17,15 @@
 -- In `lib.Signed` a / 0 is 0 and a % 0 is a; code never divides by 0. Assumes nothing.
 use mathlib.Core.Path.{_≡_, refl, sym, _∙_, ap, subst}
 use mathlib.Core.List.{[], _∷_}
-use Prim.Native.Nat.{ℕ, zero, suc, _+_, _*_, _/_, _%_, _<_, _≤_}
+use Prim.Native.Nat.{ℕ, suc, _+_, _*_, _/_, _%_, _<_, _≤_}
 use native.Mathlib.Nat.{div-add-mod', mod-lt, mod-le, div-le-self, mul-le-mul-right, le-div-iff-mul-le, one-mul, mul-mod-left}
 use native.Mathlib.Omega.{arith}
-use lib.IntN.{ℤ, pos, negsuc, negℤ, natAbs, _+ℤ_, _-ℤ_, _*ℤ_, negℤ-+ℤ, negℤ-negℤ, zero-*ℤ, *ℤ-comm}
+use lib.IntN.{ℤ, pos, negsuc, negℤ, natAbs, _+ℤ_, _-ℤ_, _*ℤ_, negℤ-+ℤ, negℤ-negℤ}
 use lib.Signed.{quotZ, remZ, _≤ℤ_}
 use Rattle.integers.proofs.Laws.Ring.{neg-mul, mul-neg, from1, from2}
 use Rattle.integers.proofs.Laws.Normaliser.{ring!, quote}
-use Rattle.integers.proofs.Laws.Magnitude.{natAbs-neg, natAbs-mul, natAbs-zero, natAbs-ne, mul-cancel}
-use Rattle.integers.proofs.Laws.Order.{up, down, parts-le, parts-neg, le-parts}
+use Rattle.integers.proofs.Laws.Magnitude.{natAbs-neg, natAbs-mul, natAbs-zero, mul-cancel}
+use Rattle.integers.proofs.Laws.Order.{parts-le, parts-neg, le-parts}
 
 -- Magnitudes -----------------------------------------------------------------------------------------------------------
 

@@ -24,7 +24,7 @@
 use mathlib.Core.Path.{_≡_, refl, sym, _∙_, ap, ap₂, subst}
 use mathlib.Core.Bool.{Bool, cond}
 use mathlib.Core.List.{[], _∷_}
-use Prim.Native.Nat.{ℕ, zero, suc, _+_, _*_, _/_, _%_, _<_, _≤_}
+use Prim.Native.Nat.{ℕ, zero, suc, _+_, _/_, _%_, _<_, _≤_}
 use native.Mathlib.Numerals.{add-one}
 use native.Mathlib.Nat.{mod-lt, div-add-mod', zero-lt-suc}
 use native.Mathlib.Omega.{arith}
@@ -39,7 +39,7 @@ use Rattle.integers.specs.Sum.{sum}
 use Rattle.integers.proofs.Laws.Ring.{from2, mul-one}
 use Rattle.integers.proofs.Laws.Normaliser.{ring!, quote}
 use Rattle.integers.proofs.Laws.Magnitude.{signed-abs}
-use Rattle.integers.proofs.Laws.Divisibility.{∣-refl, ∣-zero, ∣-add, ∣-trans, ∣-linear, ∣-eq, ∣-scale, ∣-cancel, ∣-antisym, ∣-one, ∣-abs, abs-∣, ∣-of-rem, ∣-exact}
+use Rattle.integers.proofs.Laws.Divisibility.{∣-refl, ∣-zero, ∣-add, ∣-trans, ∣-linear, ∣-eq, ∣-scale, ∣-cancel, ∣-antisym, ∣-one, abs-∣, ∣-of-rem, ∣-exact}
 use Rattle.integers.proofs.Laws.Sum.{sum-ext, sum-scale}
 
 -- Euclid's algorithm ---------------------------------------------------------------------------------------------------

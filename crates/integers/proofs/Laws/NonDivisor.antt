@@ -6,7 +6,7 @@
 --     nonDivisor-zero      nonDivisor 0 = 2
 --
 -- Assumes nothing.
-use mathlib.Core.Path.{_≡_, refl, sym, ap, subst}
+use mathlib.Core.Path.{_≡_, refl, sym, subst}
 use mathlib.Core.Bool.{Bool, true, false}
 use Prim.Native.Nat.{ℕ, zero, suc, _+_, _<_, _≤_}
 use native.Mathlib.Omega.{arith}
@@ -16,10 +16,6 @@ use Rattle.integers.specs.Divisibility.{_∣ℤ_, divides}
 use Rattle.integers.specs.NonDivisor.{LeastNonDivisor, nonDivisorFrom, nonDivisor}
 use Rattle.integers.proofs.Laws.Magnitude.{natAbs-zero}
 use Rattle.integers.proofs.Laws.Divisibility.{∣-le, ∣-zero, divides-true, divides-false}
-
--- what is larger than s does not divide it
-too-large : (s : ℤ) (q : ℕ) → (s ≡ pos 0 → ⊥) → natAbs s < q → pos q ∣ℤ s → ⊥
-too-large s q n h d = let l = ∣-le n d in omega arith
 
 -- each number from 2 on and below q divides s
 abbrev Below : ℤ → ℕ → Type 0

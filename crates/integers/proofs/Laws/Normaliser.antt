@@ -21,7 +21,7 @@ use Prim.Native.Nat.{ℕ, zero, suc, _+_, _*_}
 use native.Mathlib.Numerals.{one-add}
 use lib.Dec.{T, leb, ltb, eqb, eqb→eq}
 use lib.ListN.{getD}
-use lib.IntN.{ℤ, pos, negsuc, negℤ, _+ℤ_, _-ℤ_, _*ℤ_, +ℤ-assoc, +ℤ-idl, +ℤ-idr, *ℤ-comm, zero-*ℤ, *ℤ-zero, negℤ-+ℤ}
+use lib.IntN.{ℤ, pos, negsuc, negℤ, _+ℤ_, _-ℤ_, _*ℤ_, +ℤ-assoc, +ℤ-idl, +ℤ-idr, zero-*ℤ, *ℤ-zero, negℤ-+ℤ}
 use Rattle.integers.proofs.Laws.Ring.{+ℤ-left-comm, *ℤ-left-comm, *ℤ-assoc, add-mul, mul-add, neg-mul, one-mul, mul-one, eq-of-sub, from1, from2}
 
 -- Expressions ----------------------------------------------------------------------------------------------------------

@@ -25,13 +25,13 @@ use Prim.Native.Nat.{ℕ, zero, suc, _+_, _*_, _<_, _≤_}
 use native.Mathlib.Numerals.{add-one}
 use native.Mathlib.Omega.{arith}
 use native.Mathlib.Decide.{ℕ-discrete}
-use lib.IntN.{ℤ, pos, negsuc, negℤ, natAbs, _+ℤ_, _-ℤ_, _*ℤ_, *ℤ-zero, +ℤ-idl, +ℤ-idr}
+use lib.IntN.{ℤ, pos, negsuc, negℤ, natAbs, _+ℤ_, _-ℤ_, _*ℤ_, *ℤ-zero, +ℤ-idr}
 use Rattle.integers.specs.Divisibility.{_∣ℤ_}
 use Rattle.integers.specs.Sum.{sum, dot}
 use Rattle.integers.proofs.Laws.Ring.{from1}
 use Rattle.integers.proofs.Laws.Normaliser.{ring!, quote}
 use Rattle.integers.proofs.Laws.Magnitude.{natAbs-add, mul-bound}
-use Rattle.integers.proofs.Laws.Divisibility.{∣-add, ∣-sub, ∣-mul, ∣-mulʳ, ∣-zero, ∣-eq}
+use Rattle.integers.proofs.Laws.Divisibility.{∣-add, ∣-sub, ∣-mulʳ, ∣-zero, ∣-eq}
 
 -- Turns ----------------------------------------------------------------------------------------------------------------
 

@@ -1,7 +1,7 @@
 -- `integers::magnitude` meets its contract. Below 0 the number is -(n + 1) with n below 2^63, so that x + 1 and its negation n
 -- fit, also for the least number. Assumes nothing.
 use mathlib.Core.Path.{_≡_, refl, sym, _∙_, ap, subst}
-use mathlib.Core.Bool.{true, false}
+use mathlib.Core.Bool.{true}
 use Prim.Native.Nat.{ℕ, zero, suc, _+_, _<_, _^_}
 use native.Mathlib.Omega.{arith}
 use borrow.Author.Tests.{ltb-true}
