@@ -2,11 +2,13 @@
 -- so each theorem is one line. Assumes nothing.
 use mathlib.Core.Path.{_≡_, sym, _∙_}
 use mathlib.Core.Bool.{Bool}
+use mathlib.Core.List.{List}
 use Prim.Native.Nat.{ℕ}
 use lib.IntN.{ℤ, natAbs}
 use Rattle.integers.specs.Range.{isZero, isNegative, within}
 use Rattle.integers.specs.Divisibility.{divides}
 use Rattle.integers.specs.Gcd.{gcdℕ}
+use Rattle.integers.specs.Run.{at}
 
 pub determined : {A : Type 0} {value r s : A} → r ≡ value → s ≡ value → r ≡ s
 determined h k = h ∙ sym k
@@ -28,3 +30,6 @@ divides-determined d x r s = determined
 
 pub gcd-determined : (a b r s : ℕ) → r ≡ gcdℕ a b → s ≡ gcdℕ a b → r ≡ s
 gcd-determined a b r s = determined
+
+pub at-determined : (run : List ℤ) (place : ℕ) (r s : ℤ) → r ≡ at run place → s ≡ at run place → r ≡ s
+at-determined run place r s = determined

@@ -1,10 +1,11 @@
-// Numbers that every crate above shares: magnitudes, ranges, divisibility and the greatest common divisor. Each function
-// takes any numbers.
+// What every crate above shares: signs, magnitudes, ranges, divisibility, the greatest common divisor, and the places of a run.
+// Each function takes any numbers.
 ghost use mathlib.Core.Path.{_≡_};
 ghost use lib.IntN.{natAbs};
 ghost use Rattle.integers.specs.Range.{isZero, isNegative, within};
 ghost use Rattle.integers.specs.Divisibility.{divides};
 ghost use Rattle.integers.specs.Gcd.{gcdℕ};
+ghost use Rattle.integers.specs.Run.{at};
 
 // Whether x is 0.
 pub fn is_zero(x: i64) -> bool
@@ -62,4 +63,11 @@ pub fn gcd(a: u64, b: u64) -> u64
         y = rest;
     }
     x
+}
+
+// What stands at a place of a run; 0 past its end.
+pub fn at(run: &[i64], place: usize) -> i64
+    ensures { λ r. ⌜ r ≡ at (now (run .entry)) place ⌝ }
+{
+    if place < run.len() { run[place] } else { 0 }
 }

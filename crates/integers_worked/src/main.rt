@@ -63,6 +63,16 @@ fn gcd(a: u64, b: u64) {
     number(integers::gcd(a, b));
 }
 
+// The place of the run 5, -6.
+fn at(place: usize) {
+    let run = [5, -6];
+    io::write_all(1, b"at([5, -6], ");
+    io::print_decimal(1, place as u64);
+    io::write_all(1, b") = ");
+    signed(integers::at(&run, place));
+    io::write_all(1, b"\n");
+}
+
 fn signs() {
     is_zero(0);
     is_zero(1);
@@ -120,10 +130,18 @@ fn common_divisors() {
     gcd(12200160415121876738, 7540113804746346429);
 }
 
+fn places() {
+    at(0);
+    at(1);
+    at(2);
+    at(18446744073709551615);
+}
+
 fn main() {
     signs();
     magnitudes();
     ranges();
     divisors();
     common_divisors();
+    places();
 }

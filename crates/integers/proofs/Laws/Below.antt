@@ -4,13 +4,18 @@
 --               all-more   any-more       at the code's n + 1
 --     All       all-each       true: true at each place      all-true     the other way round
 --               all-false      false at a place: false       all-same     the same tests: the same answer
+--               all-split      at a + b places: at the first a and at the b from place a on
 --     Any       any-each       false: false at each place    any-false    the other way round
 --               any-true       true at a place: true         any-place    true: a place at which it is true
+--     Loops     a loop that leaves at the first place where a test fails, or holds, and the place that it has reached
+--               all-onward     one place more                all-stop     it leaves with false      all-end    with true
+--               any-onward     one place more                any-stop     it leaves with true       any-end    with false
 --
 -- Assumes nothing.
 use mathlib.Core.Path.{_≡_, refl, sym, _∙_, ap, ap₂}
 use mathlib.Core.Bool.{Bool, true, false, _&&_, _||_, true≢false, false≢true}
-use Prim.Native.Nat.{ℕ, zero, suc, _+_, _<_}
+use Prim.Native.Nat.{ℕ, zero, suc, _+_, _<_, _≤_}
+use native.Mathlib.Nat.{le-antisymm}
 use native.Mathlib.Numerals.{add-one}
 use native.Mathlib.Omega.{arith}
 use native.Mathlib.Decide.{ℕ-discrete}
@@ -70,6 +75,20 @@ unfolding allBelow
 all-same zero t u h = refl
 all-same (suc n) t u h = ap₂ (λ (a b : Bool). a && b) (all-same n t u (λ i l. h i (omega arith))) (h n (omega arith))
 
+and-assoc : (a b c : Bool) → (a && b) && c ≡ a && (b && c)
+and-assoc true b c = refl
+and-assoc false b c = refl
+
+pub all-split : (a b : ℕ) (t : ℕ → Bool) → allBelow (a + b) t ≡ allBelow a t && allBelow b (λ i. t (i + a))
+unfolding allBelow
+all-split a zero t = let e : a + 0 ≡ a = omega arith in rw e (and-true (allBelow a t))
+  where
+    and-true : (x : Bool) → x ≡ x && true
+    and-true true = refl
+    and-true false = refl
+all-split a (suc b) t = let e : a + suc b ≡ suc (a + b) = omega arith in let f : a + b ≡ b + a = omega arith in
+    rw e (ap₂ (λ (x y : Bool). x && y) (all-split a b t) (ap t f) ∙ and-assoc (allBelow a t) (allBelow b (λ i. t (i + a))) (t (b + a)))
+
 -- Any ------------------------------------------------------------------------------------------------------------------
 
 or-parts : (a b : Bool) → a || b ≡ false → (a ≡ false) × (b ≡ false)
@@ -109,3 +128,24 @@ any-place (suc n) t e = go (anyBelow n t) refl e (any-place n t)
     go : (a : Bool) → anyBelow n t ≡ a → a || t n ≡ true → (anyBelow n t ≡ true → (i : ℕ) × (i < n) × (t i ≡ true)) → (i : ℕ) × (i < suc n) × (t i ≡ true)
     go true r f earlier = let p = earlier r in (p .0, omega (arith, p .1), p .2)
     go false r f earlier = (n, omega arith, f)
+
+-- Loops ----------------------------------------------------------------------------------------------------------------
+
+module _ (n : ℕ) (t : ℕ → Bool) (i : ℕ) where
+  pub all-onward : allBelow i t ≡ true → t i ≡ true → allBelow (i + 1) t ≡ true
+  all-onward e f = all-more i t ∙ ap₂ (λ (a b : Bool). a && b) e f
+
+  pub all-stop : i < n → t i ≡ false → false ≡ allBelow n t
+  all-stop h e = sym (all-false n t i h e)
+
+  pub all-end : i ≤ n → n ≤ i → allBelow i t ≡ true → true ≡ allBelow n t
+  all-end h k e = sym e ∙ ap (λ (m : ℕ). allBelow m t) (le-antisymm h k)
+
+  pub any-onward : anyBelow i t ≡ false → t i ≡ false → anyBelow (i + 1) t ≡ false
+  any-onward e f = any-more i t ∙ ap₂ (λ (a b : Bool). a || b) e f
+
+  pub any-stop : i < n → t i ≡ true → true ≡ anyBelow n t
+  any-stop h e = sym (any-true n t i h e)
+
+  pub any-end : i ≤ n → n ≤ i → anyBelow i t ≡ false → false ≡ anyBelow n t
+  any-end h k e = sym e ∙ ap (λ (m : ℕ). anyBelow m t) (le-antisymm h k)

@@ -2,10 +2,12 @@
 --
 --     Decides t P     `yes`: t is true, so P holds;   `is`: P holds, so t is true
 --     decides-no      t is false: P does not hold
+--     decides-false   P does not hold: t is false
 --     decides-stable  P, if it is impossible that P does not hold
 --     Naturals        by-le  by-lt  by-eq               leb m n, ltb m n, eqb m n
 --     Integers        by-le-ℤ  by-lt-ℤ                  leZ a b, ltZ a b
---                     by-zero  by-within  by-divides    isZero z, within B z, divides a b
+--                     by-zero  by-nonneg                isZero z, not (isNegative z)
+--                     by-within  by-divides             within B z, divides a b
 --     Composed        by-and  by-not                    _&&_ of a pair, not of a negation
 --                     by-all  by-any                    allBelow, anyBelow
 --                     by-same                           the statement replaced by an equivalent one
@@ -14,15 +16,16 @@
 use mathlib.Core.Path.{_≡_, refl, sym, _∙_, ap}
 use mathlib.Core.Bool.{Bool, true, false, not, _&&_, true≢false, false≢true}
 use Prim.Native.Nat.{ℕ, _<_, _≤_}
-use borrow.Author.Tests.{ltb-true, lt-ltb, leb-true, le-leb, eqb-true, eq-eqb}
+use native.Mathlib.Omega.{arith}
+use borrow.Author.Tests.{ltb-true, lt-ltb, leb-true, le-leb, eqb-true, eq-eqb, not-true}
 use lib.Dec.{leb, ltb, eqb}
 use lib.IntN.{ℤ, pos, natAbs}
 use lib.Signed.{leZ, ltZ, _≤ℤ_, _<ℤ_}
-use Rattle.integers.specs.Range.{isZero, within}
+use Rattle.integers.specs.Range.{isZero, isNegative, within}
 use Rattle.integers.specs.Divisibility.{_∣ℤ_, divides}
 use Rattle.integers.specs.Below.{allBelow, anyBelow}
 use Rattle.integers.proofs.Laws.Magnitude.{natAbs-zero}
-use Rattle.integers.proofs.Laws.Order.{le-true, lt-true, le-is-true, lt-is-true, le-parts, lt-parts, parts-le, parts-lt}
+use Rattle.integers.proofs.Laws.Order.{le-true, lt-true, lt-false, le-is-true, lt-is-true, lt-is-false, le-parts, lt-parts, parts-le, parts-lt}
 use Rattle.integers.proofs.Laws.Divisibility.{divides-true, divides-is}
 use Rattle.integers.proofs.Laws.Below.{all-each, all-true, any-true, any-place}
 
@@ -32,6 +35,10 @@ pub record Decides (t : Bool) (P : Type 0) : Type 0 where
 
 pub decides-no : {t : Bool} {P : Type 0} → Decides t P → t ≡ false → P → ⊥
 decides-no d e h = true≢false (sym (d .is h) ∙ e)
+
+pub decides-false : {t : Bool} {P : Type 0} → Decides t P → (P → ⊥) → t ≡ false
+decides-false {t = true} d h = absurd (h (d .yes refl))
+decides-false {t = false} d h = refl
 
 pub decides-stable : {t : Bool} {P : Type 0} → Decides t P → ((P → ⊥) → ⊥) → P
 decides-stable {t = true} d h = d .yes refl
@@ -58,6 +65,12 @@ by-lt-ℤ a b = record { yes = λ e. parts-lt a b (lt-true a b e); is = λ h. lt
 
 pub by-zero : (z : ℤ) → Decides (isZero z) (z ≡ pos 0)
 by-zero z = record { yes = λ e. natAbs-zero z (eqb-true (natAbs z) 0 e); is = λ h. eq-eqb (natAbs z) 0 (ap natAbs h) }
+
+pub by-nonneg : (z : ℤ) → Decides (not (isNegative z)) (pos 0 ≤ℤ z)
+by-nonneg z = record {
+  yes = λ e. parts-le (pos 0) z (omega (arith, lt-false z (pos 0) (not-true (isNegative z) e)));
+  is = λ h. ap not (lt-is-false z (pos 0) (omega (arith, le-parts (pos 0) z h)));
+}
 
 pub by-within : (B : ℕ) (z : ℤ) → Decides (within B z) (natAbs z ≤ B)
 by-within B z = by-le (natAbs z) B
