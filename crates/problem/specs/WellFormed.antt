@@ -3,8 +3,9 @@
 --     Shape n ma mb a b     "n variables (1 to 12), mA rows of A and mB rows of B; either may be 0, the total m is 1 to 12. ..
 --                           a side has exactly (rows × (n + 2)) numbers"
 --     Ranges n R            "Coefficients and constants lie in −1,000,000..1,000,000, moduli in 0..1,000,000."
+--     WellFormed            both, of a whole problem
 --     shape, inRanges       the same as tests
---     wellFormed            both tests, the shape first, of a whole problem
+--     wellFormed            the tests of a whole problem, the shape first
 use mathlib.Core.Path.{_≡_}
 use mathlib.Core.List.{List}
 use mathlib.Core.Bool.{Bool, not, _&&_}
@@ -37,6 +38,11 @@ pub record RowInRange (n : ℕ) (R : Rows) (i : ℕ) : Type 0 where
 
 pub record Ranges (n : ℕ) (R : Rows) : Type 0 where
   pub row : (i : ℕ) → i < R .m → RowInRange n R i
+
+pub record WellFormed (n ma mb : ℕ) (a b : List ℤ) : Type 0 where
+  pub shape : Shape n ma mb a b
+  pub ranges-a : Ranges n (sideOf n ma a)
+  pub ranges-b : Ranges n (sideOf n mb b)
 
 abbrev pub shape : ℕ → ℕ → ℕ → List ℤ → List ℤ → Bool
 shape n ma mb a b = (leb 1 n && leb n 12) && ((leb 1 (ma + mb) && leb (ma + mb) 12) && (eqb (length a) (ma * (n + 2)) && eqb (length b) (mb * (n + 2))))

@@ -11,6 +11,7 @@
 --     Many            gcdFrom g k f, the gcd of g and of f 0, .., f (k - 1)
 --                     gcdFrom-none    gcdFrom g 0 f = g
 --                     gcdFrom-more    gcdFrom g (k + 1) f, at the code's k + 1
+--                     gcdFrom-turn    the same for a natural that holds the gcd so far, as a loop has it
 --                     gcdFrom-start   it divides g          gcdFrom-each   it divides each f i
 --                     gcdFrom-greatest    what divides g and each f i divides it
 --                     gcdFrom-bezout  it is u g + w 0 × f 0 + .. + w (k - 1) × f (k - 1) for some u, w
@@ -144,6 +145,10 @@ gcdFrom-none g f = refl
 pub gcdFrom-more : (g : ℤ) (k : ℕ) (f : ℕ → ℤ) → gcdFrom g (k + 1) f ≡ gcdℤ (gcdFrom g k f) (f k)
 unfolding gcdFrom
 gcdFrom-more g k f = rw add-one
+
+pub gcdFrom-turn : (g : ℤ) (k : ℕ) (f : ℕ → ℤ) (so-far next : ℕ) → pos so-far ≡ gcdFrom g k f → next ≡ gcdℕ so-far (natAbs (f k)) → pos next ≡ gcdFrom g (k + 1) f
+unfolding gcdℤ
+gcdFrom-turn g k f so-far next e h = ap pos h ∙ ap (λ x. gcdℤ x (f k)) e ∙ sym (gcdFrom-more g k f)
 
 pub gcdFrom-start : (g : ℤ) (k : ℕ) (f : ℕ → ℤ) → gcdFrom g k f ∣ℤ g
 unfolding gcdFrom

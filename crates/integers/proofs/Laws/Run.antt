@@ -1,9 +1,12 @@
 -- Runs by their places: laws of `tabulate`, and what a loop that writes a run leaves.
 --
+--     Places       at-end             past the end stands 0
 --     Tabulated    tabulate-length    length (tabulate n f) = n
 --                  tabulate-at        place i < n of tabulate n f is f i
 --                  tabulate-is        a run of length n with f i at each place i is tabulate n f
 --                  tabulate-ext       equal places: equal runs
+--                  tabulate-all       a function that is 0 from n on, read back from its first n places
+--                  run-is             a run is tabulated by its own places
 --                  tabulate-set       one place set
 --                  tabulate-zeros     [0; n] is tabulate n of 0
 --     Filled       filled k f run     run with its first k places set to f 0, .., f (k - 1): a writing loop after k turns
@@ -13,16 +16,16 @@
 --                  filled-all         all places set: tabulate n f
 --
 -- Assumes nothing.
-use mathlib.Core.Path.{_≡_, refl, sym, _∙_, ap}
+use mathlib.Core.Path.{_≡_, refl, sym, _∙_, ap, fun-ext}
 use mathlib.Core.Bool.{Bool, cond}
 use mathlib.Core.List.{List}
 use Prim.Native.Nat.{ℕ, zero, suc, _+_, _≤_, _<_}
 use native.Mathlib.Numerals.{add-one}
 use native.Mathlib.Omega.{arith}
-use native.Mathlib.Decide.{ℕ-discrete}
+use native.Mathlib.Decide.{ℕ-discrete, decLt}
 use borrow.Author.Tests.{eq-eqb, ne-eqb}
 use lib.Dec.{eqb}
-use lib.ListN.{set, length, length-set, replicate, length-replicate, getD-replicate}
+use lib.ListN.{set, length, length-set, List·getD-eq-default, replicate, length-replicate, getD-replicate}
 use lib.Seq.{getD-set-same, getD-set-other, ext-getD}
 use lib.IntN.{ℤ, pos}
 use Rattle.integers.specs.Run.{at, tabulate}
@@ -47,6 +50,18 @@ tabulate-is n f run e h =
 
 pub tabulate-ext : (n : ℕ) (f g : ℕ → ℤ) → ((i : ℕ) → i < n → f i ≡ g i) → tabulate n f ≡ tabulate n g
 tabulate-ext n f g h = tabulate-is n g (tabulate n f) (tabulate-length n f) (λ i l. tabulate-at n f i l ∙ h i l)
+
+pub run-is : (run : List ℤ) → run ≡ tabulate (length run) (at run)
+run-is run = tabulate-is (length run) (at run) run refl (λ i h. refl)
+
+pub tabulate-all : (n : ℕ) (f : ℕ → ℤ) → ((i : ℕ) → n ≤ i → f i ≡ pos 0) → at (tabulate n f) ≡ f
+tabulate-all n f zeros = fun-ext (λ i. elim (decLt i n) [
+  | yes h ↦ tabulate-at n f i h
+  | no h ↦ let l = tabulate-length n f in List·getD-eq-default (tabulate n f) (pos 0) {n = i} (omega arith) ∙ sym (zeros i (omega arith))
+])
+
+pub at-end : (run : List ℤ) (i : ℕ) → length run ≤ i → at run i ≡ pos 0
+at-end run i h = List·getD-eq-default run (pos 0) {n = i} h
 
 pub tabulate-set : (n : ℕ) (f : ℕ → ℤ) (k : ℕ) (x : ℤ) → k < n → set (tabulate n f) k x ≡ tabulate n (λ i. cond (eqb i k) x (f i))
 tabulate-set n f k x h =

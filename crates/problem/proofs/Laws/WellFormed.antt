@@ -3,7 +3,7 @@
 --     by-shape         shape decides Shape
 --     by-row           rowInRange decides RowInRange
 --     by-ranges        inRanges decides Ranges
---     by-well-formed   wellFormed decides that all three hold: the shape, and the ranges of both sides
+--     by-well-formed   wellFormed decides WellFormed
 --
 -- Assumes nothing.
 use mathlib.Core.List.{List}
@@ -13,7 +13,7 @@ use lib.IntN.{ℤ, natAbs}
 use Rattle.integers.specs.Range.{within}
 use Rattle.integers.proofs.Laws.Decide.{Decides, by-le, by-eq, by-nonneg, by-within, by-and, by-all, by-same}
 use Rattle.problem.specs.Rows.{Rows, sideOf}
-use Rattle.problem.specs.WellFormed.{million, Shape, RowInRange, Ranges, shape, rowInRange, inRanges, wellFormed}
+use Rattle.problem.specs.WellFormed.{million, Shape, RowInRange, Ranges, WellFormed, shape, rowInRange, inRanges, wellFormed}
 
 pub by-shape : (n ma mb : ℕ) (a b : List ℤ) → Decides (shape n ma mb a b) (Shape n ma mb a b)
 by-shape n ma mb a b = by-same
@@ -30,11 +30,6 @@ by-row n R i = by-same
 
 pub by-ranges : (n : ℕ) (R : Rows) → Decides (inRanges n R) (Ranges n R)
 by-ranges n R = by-same (λ h. record { row = h }) (λ s. s .row) (by-all (R .m) (rowInRange n R) (RowInRange n R) (by-row n R))
-
-pub record WellFormed (n ma mb : ℕ) (a b : List ℤ) : Type 0 where
-  pub shape : Shape n ma mb a b
-  pub ranges-a : Ranges n (sideOf n ma a)
-  pub ranges-b : Ranges n (sideOf n mb b)
 
 pub by-well-formed : (n ma mb : ℕ) (a b : List ℤ) → Decides (wellFormed n ma mb a b) (WellFormed n ma mb a b)
 unfolding wellFormed
