@@ -1,4 +1,5 @@
--- Laws has what follows from the definitions, for the proofs of this crate; Theorems has what the definitions promise.
--- The other folders have the proof of one function each.
-pub mod Laws
+-- Theorems has what the definitions promise, and is to be read first; Determined says that each contract leaves one result; Laws
+-- has what both and the code's proofs rest on. The other folders have the proof of one function each.
 pub mod Theorems
+pub mod Determined
+pub mod Laws

@@ -4,10 +4,11 @@
 --     interpolantRefusal     the refusal of `interpolant`: that of `check`, with 2 after 1 if the run is not n long
 --     answerOf k f           the fact's constant and modulus for 0, else Refused k
 --     runOf k n f before     the fact's n coefficients for 0, else the run as it was
---     numberOf               the paper's number of a verdict: 0 is none
+--     interpolantAnswer      what `interpolant` answers              interpolantRun    what its run then holds
 use mathlib.Core.List.{List}
 use Prim.Native.Nat.{ℕ, zero, suc}
 use lib.Dec.{eqb}
+use lib.ListN.{length}
 use lib.IntN.{ℤ}
 use Rattle.integers.specs.Run.{tabulate}
 use Rattle.problem.specs.Rows.{sideOf}
@@ -24,10 +25,6 @@ abbrev pub verdictOf : ℕ → Verdict
 verdictOf zero = Accepted
 verdictOf (suc k) = Refused (suc k)
 
-abbrev pub numberOf : Verdict → ℕ
-numberOf Accepted = 0
-numberOf (Refused k) = k
-
 unfoldable pub interpolantRefusal : ℕ → ℕ → ℕ → List ℤ → List ℤ → ℤ → List ℤ → ℕ → ℕ
 interpolantRefusal n ma mb a b q p long = unless (shape n ma mb a b) 1 (unless (eqb long n) 2 (refusal n ma mb a b q p))
 
@@ -42,3 +39,11 @@ answerOf (suc k) f = Unstated (suc k)
 abbrev pub runOf : ℕ → ℕ → Fact → List ℤ → List ℤ
 runOf zero n f before = tabulate n (f .coef)
 runOf (suc k) n f before = before
+
+-- `entry` is the lent run as the call finds it
+module _ (n ma mb : ℕ) (a b : List ℤ) (q : ℤ) (p entry : List ℤ) where
+  abbrev pub interpolantAnswer : Answer
+  interpolantAnswer = answerOf (interpolantRefusal n ma mb a b q p (length entry)) (interpolantFor n ma mb a b p)
+
+  abbrev pub interpolantRun : List ℤ
+  interpolantRun = runOf (interpolantRefusal n ma mb a b q p (length entry)) n (interpolantFor n ma mb a b p) entry

@@ -16,7 +16,7 @@ ghost use Rattle.problem.specs.WellFormed.{million, WellFormed};
 ghost use Rattle.problem.specs.Occurrence.{occurs};
 ghost use Rattle.checker.specs.Refutation.{columnSum, numerator, isVector, areNumerators, sumsRefusal, vectorRefusal, refusal};
 ghost use Rattle.checker.specs.NormalForm.{firstNonzero, residue};
-ghost use Rattle.checker.specs.Answer.{verdictOf, interpolantRefusal, interpolantFor, answerOf, runOf};
+ghost use Rattle.checker.specs.Answer.{verdictOf, interpolantFor, answerOf, interpolantAnswer, interpolantRun};
 ghost use Rattle.checker.specs.Code.{numbers, weights, Weighted, Summable, Weighable, localSum, sharedSum, largest, Small, factOf, madePositive, finished, shortForm, changed, Allowed};
 
 // What `check` answers: accepted, or the paper's number of the refusal.
@@ -54,8 +54,8 @@ pub fn interpolant(
     p: &[i64],
     coeffs: &mut [i64],
 ) -> Answer
-    ensures { λ r. ⌜ r ≡ answerOf (interpolantRefusal n ma mb (now (a .entry)) (now (b .entry)) q (now (p .entry)) (length (now (coeffs .entry)))) (interpolantFor n ma mb (now (a .entry)) (now (b .entry)) (now (p .entry))) ⌝ }
-    ensures { λ r. ⌜ now (coeffs .exit) ≡ runOf (interpolantRefusal n ma mb (now (a .entry)) (now (b .entry)) q (now (p .entry)) (length (now (coeffs .entry)))) n (interpolantFor n ma mb (now (a .entry)) (now (b .entry)) (now (p .entry))) (now (coeffs .entry)) ⌝ }
+    ensures { λ r. ⌜ r ≡ interpolantAnswer n ma mb (now (a .entry)) (now (b .entry)) q (now (p .entry)) (now (coeffs .entry)) ⌝ }
+    ensures { λ r. ⌜ now (coeffs .exit) ≡ interpolantRun n ma mb (now (a .entry)) (now (b .entry)) q (now (p .entry)) (now (coeffs .entry)) ⌝ }
 {
     let number = refusal(n, ma, mb, a, b, q, p);
     if number == 1 {
@@ -69,6 +69,8 @@ pub fn interpolant(
     }
     fact(n, ma, mb, a, b, p, coeffs)
 }
+
+// ---- A refutation
 
 // The first refusal of a problem and a vector, 0 if the vector is accepted.
 fn refusal(n: usize, ma: usize, mb: usize, a: &[i64], b: &[i64], q: i64, p: &[i64]) -> u8
@@ -207,6 +209,8 @@ fn weighted(n: usize, run: &[i64], p: &[i64], from: usize, column: usize, i: usi
     )
 }
 
+// ---- The interpolant
+
 // The interpolant of a vector that is accepted.
 fn fact(
     n: usize,
@@ -323,6 +327,8 @@ fn moduli_gcd(n: usize, m: usize, run: &[i64], p: &[i64], g: u64) -> i64
     }
     common as i64
 }
+
+// ---- Its normal form
 
 // Brings a fact to its normal form.
 fn normalise(coeffs: &mut [i64], constant: i64, modulus: i64) -> Answer
@@ -445,6 +451,8 @@ fn residue(x: i64, m: i64) -> i64
     let rest = x % m;
     if rest < 0 { rest + m } else { rest }
 }
+
+// ---- Numbers in range
 
 fn product(x: i64, y: i64) -> i64
     requires { ⌜ (natAbs x ≤ million) × (natAbs y ≤ million) ⌝ }

@@ -1,7 +1,7 @@
 -- Laws of problems, one subject a file. Each file opens with a list of what it proves.
 --
 --     Rows          all rows, by side: sums, tests and places
---     Points        a point meets all rows exactly when it meets both sides
+--     Points        a point meets a row as an equation, and all rows exactly when it meets both sides
 --     WellFormed    the tests decide Shape and Ranges
 --     Occurrence    the law of occurrence
 pub mod Rows

@@ -1,7 +1,8 @@
--- All rows, `both A B`, by side.
+-- All rows, `both A B`, by side: the first a rows are A's, the b rows from a on are B's.
 --
---     first     below a: the first of a pair of columns      second    from a on: the second
---     both-dot    a · b over all rows is its sum over A's rows and over B's
+--     first       a row below a is A's
+--     second      a row from a on is B's
+--     both-dot    a product of two lists over all rows is the sum of those over A's rows and over B's
 --     both-all    a test at all rows is the test at A's rows and at B's
 --
 -- Assumes nothing.
