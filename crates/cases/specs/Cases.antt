@@ -1,19 +1,23 @@
 -- The paper's section "Checked by hand", cases 1 to 7, as one list with the expected answers.
 --
 --     Case            a problem and a vector, as `check` and `interpolant` take them
---     Expected        a refusal's number, or coefficients, constant and modulus of the interpolant
---     answerTo        what the checker's definitions say of a case
+--     Answers         what `check` and `interpolant` answer, and what the lent run then holds
+--     answerTo        that of a case, by the definitions of the contracts
+--     parity          case 2 with any vector, which case 7 asks for
 --     cases           the paper's cases, in its order; case 5 also with A and B exchanged, case 7 with its four vectors
 --     expected        what the paper says of them
 --
 -- The variables x, y, z are places 0, 1, 2. That answerTo gives what is expected: proofs/CheckedByHand.antt.
 use mathlib.Core.List.{List, [], _∷_}
-use Prim.Native.Nat.{ℕ, zero, suc}
+use Prim.Native.Nat.{ℕ}
 use lib.IntN.{ℤ, pos, negsuc}
 use Rattle.integers.specs.Run.{tabulate}
 use Rattle.checker.specs.Refutation.{refusal}
-use Rattle.checker.specs.Fact.{Fact}
-use Rattle.checker.specs.Answer.{interpolantFor}
+use Rattle.checker.specs.Answer.{verdictOf, interpolantAnswer, interpolantRun}
+use Rattle.checker.specs.declared.Verdict.{Verdict}
+use Rattle.checker.specs.declared.Verdict.the-variants.{Accepted, Refused}
+use Rattle.checker.specs.declared.Answer.{Answer}
+use Rattle.checker.specs.declared.Answer.the-variants.{Fact as Stated, Refused as Unstated}
 
 pub record Case : Type 0 where
   pub n : ℕ
@@ -24,20 +28,32 @@ pub record Case : Type 0 where
   pub q : ℤ
   pub p : List ℤ
 
-pub data Expected : Type 0 where
-  refused : ℕ → Expected
-  fact : List ℤ → ℤ → ℤ → Expected
+pub record Answers : Type 0 where
+  pub verdict : Verdict
+  pub answer : Answer
+  pub run : List ℤ
 
-unfoldable pub answerBy : ℕ → ℕ → Fact → Expected
-answerBy zero n f = fact (tabulate n (f .coef)) (f .const) (f .modulus)
-answerBy (suc k) n f = refused (suc k)
+-- the run that is lent to `interpolant`
+abbrev pub lent : ℕ → List ℤ
+lent n = tabulate n (λ j. pos 7)
 
-unfoldable pub answerTo : Case → Expected
-answerTo c = answerBy (refusal (c .n) (c .ma) (c .mb) (c .a) (c .b) (c .q) (c .p)) (c .n) (interpolantFor (c .n) (c .ma) (c .mb) (c .a) (c .b) (c .p))
+unfoldable pub answerTo : Case → Answers
+answerTo c = record {
+  verdict = verdictOf (refusal (c .n) (c .ma) (c .mb) (c .a) (c .b) (c .q) (c .p));
+  answer = interpolantAnswer (c .n) (c .ma) (c .mb) (c .a) (c .b) (c .q) (c .p) (lent (c .n));
+  run = interpolantRun (c .n) (c .ma) (c .mb) (c .a) (c .b) (c .q) (c .p) (lent (c .n));
+}
 
-unfoldable pub answersTo : List Case → List Expected
+unfoldable pub answersTo : List Case → List Answers
 answersTo [] = []
 answersTo (c ∷ cs) = answerTo c ∷ answersTo cs
+
+abbrev pub fact : List ℤ → ℤ → ℤ → Answers
+fact coefficients constant modulus = record { verdict = Accepted; answer = Stated constant modulus; run = coefficients }
+
+-- of a problem over three variables; the lent run is left as it was
+abbrev pub refused : ℕ → Answers
+refused k = record { verdict = Refused k; answer = Unstated k; run = pos 7 ∷ pos 7 ∷ pos 7 ∷ [] }
 
 -- "2. A x − 2y = 0; B x − 2z = 1", with a vector.
 abbrev pub parity : ℤ → List ℤ → Case
@@ -66,7 +82,7 @@ cases =
     ∷ parity (pos 1) (pos 1 ∷ pos 1 ∷ [])
     ∷ []
 
-abbrev pub expected : List Expected
+abbrev pub expected : List Answers
 expected =
     fact (pos 0 ∷ pos 1 ∷ pos 0 ∷ []) (pos 0) (pos 0)
     ∷ fact (pos 1 ∷ pos 0 ∷ pos 0 ∷ []) (pos 0) (pos 2)

@@ -18,5 +18,5 @@ module _ (n ma mb : ℕ) (a b : List ℤ) (q : ℤ) (p : List ℤ) where
     pub interpolant-determined : (r s : Answer) → r ≡ interpolantAnswer n ma mb a b q p entry → s ≡ interpolantAnswer n ma mb a b q p entry → r ≡ s
     interpolant-determined r s = determined
 
-    pub run-determined : (exit other : List ℤ) → exit ≡ interpolantRun n ma mb a b q p entry → other ≡ interpolantRun n ma mb a b q p entry → exit ≡ other
-    run-determined exit other = determined
+    pub interpolant-run-determined : (exit other : List ℤ) → exit ≡ interpolantRun n ma mb a b q p entry → other ≡ interpolantRun n ma mb a b q p entry → exit ≡ other
+    interpolant-run-determined exit other = determined

@@ -1,6 +1,7 @@
 -- What the checker's definitions promise, in the terms of specs/, one subject a file.
 --
 --     Accepted    accepted-is  refused-is              a vector is accepted, or refused with k, exactly in its case
+--                 interpolant-refused-is  number-is    so is the interpolant; no two numbers have the same answer
 --     Refuted     no-point  refuted                    an accepted vector leaves no point that meets both sides
 --     Implied     implied  excluded  only-shared       A implies the interpolant, B excludes it, it has shared variables only
 --     Normal      normal-same  normal-form             the normal form says the same as the fact, and is normal

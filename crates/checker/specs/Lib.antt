@@ -4,9 +4,11 @@
 --     Fact           Fact  Holds  rawFact              a fact about points, and the one that a vector gives
 --     NormalForm     normalForm  interpolantOf         the normal form, case by case; the interpolant
 --     Answer         verdictOf  answerOf  runOf        what the two public functions answer, and what the lent run then holds
+--     Promises       Says  IsNormal  Completes         what the theorems of proofs/Theorems say of them
 --     Code           what the private functions ask for and what they compute; a reader of the public contracts can pass it over
 pub mod Refutation
 pub mod Fact
 pub mod NormalForm
 pub mod Answer
+pub mod Promises
 pub mod Code

@@ -1,7 +1,5 @@
 -- The normal form is normal.
 --
---     NormalForm n f    f is TRUE, or FALSE, or an equality without common factor and with its first nonzero coefficient
---                       positive, or a congruence modulo 2 or more without common factor, all else in 0..modulus − 1
 --     residue-in        a residue modulo k > 0 lies in 0..k − 1
 --     normal-form       the normal form of a fact whose modulus is not negative, as that of a raw fact is not
 --
@@ -25,15 +23,9 @@ use Rattle.integers.proofs.Laws.Gcd.{gcdFrom-start, gcdFrom-greatest, gcdFrom-n
 use Rattle.integers.proofs.Laws.Decide.{by-zero, decides-no}
 use Rattle.checker.specs.Fact.{Fact}
 use Rattle.checker.specs.NormalForm.{trueFact, falseFact, divided, firstNonzero, signBy, residue, positiveBy, equalityBy, unitBy, congruenceBy, normalBy, normalForm}
+use Rattle.checker.specs.Promises.{IsNormal, is-true, is-false, is-equality, is-congruence}
 use Rattle.checker.proofs.Laws.First.{first-zero, first-neg}
 use Rattle.checker.proofs.Laws.Same.{residue-near}
-
-pub data NormalForm (n : ℕ) (f : Fact) : Type 0 where
-  is-true : ((j : ℕ) → j < n → f .coef j ≡ pos 0) → f .const ≡ pos 0 → f .modulus ≡ pos 0 → NormalForm n f
-  is-false : ((j : ℕ) → j < n → f .coef j ≡ pos 0) → f .const ≡ pos 1 → f .modulus ≡ pos 0 → NormalForm n f
-  is-equality : f .modulus ≡ pos 0 → gcdFrom (pos 0) n (f .coef) ≡ pos 1 → pos 0 <ℤ firstNonzero n (f .coef) → NormalForm n f
-  is-congruence : pos 2 ≤ℤ f .modulus → gcdFrom (f .modulus) n (f .coef) ≡ pos 1 →
-      ((j : ℕ) → j < n → (pos 0 ≤ℤ f .coef j) × (f .coef j <ℤ f .modulus)) → (pos 0 ≤ℤ f .const) × (f .const <ℤ f .modulus) → NormalForm n f
 
 -- Equalities -----------------------------------------------------------------------------------------------------------
 
@@ -43,7 +35,7 @@ some-nonzero n c g z =
     let e = ap natAbs (sym g ∙ zero-∣ (gcdFrom-greatest (pos 0) (pos 0) n c (∣-zero (pos 0)) (λ j l. ∣-of-zero (pos 0) (first-zero n c z j l)))) in
     omega arith
 
-sign-form : (n : ℕ) (t : Bool) (f : Fact) → isNegative (firstNonzero n (f .coef)) ≡ t → f .modulus ≡ pos 0 → gcdFrom (pos 0) n (f .coef) ≡ pos 1 → NormalForm n (signBy t f)
+sign-form : (n : ℕ) (t : Bool) (f : Fact) → isNegative (firstNonzero n (f .coef)) ≡ t → f .modulus ≡ pos 0 → gcdFrom (pos 0) n (f .coef) ≡ pos 1 → IsNormal n (signBy t f)
 unfolding signBy
 sign-form n true f e m g = is-equality m
     (gcdFrom-abs (pos 0) n (λ j. negℤ (f .coef j)) (f .coef) (λ j l. natAbs-neg (f .coef j)) ∙ g)
@@ -64,7 +56,7 @@ residue-in k x h = go (remZ x (pos k)) (rem-lt x (pos k) h) (isNegative (remZ x 
     go r l true e = (omega (arith, order-facts, order-goals, parts-add r (pos k), parts-abs r), omega (arith, order-facts, order-goals, parts-add r (pos k), parts-abs r))
     go r l false e = (omega (arith, order-facts, order-goals), omega (arith, order-facts, order-goals, parts-abs r))
 
-unit-form : (n : ℕ) (t : Bool) (f : Fact) (m : ℕ) → eqb (natAbs (f .modulus)) 1 ≡ t → f .modulus ≡ pos m → 0 < m → gcdFrom (pos m) n (f .coef) ≡ pos 1 → NormalForm n (unitBy t f)
+unit-form : (n : ℕ) (t : Bool) (f : Fact) (m : ℕ) → eqb (natAbs (f .modulus)) 1 ≡ t → f .modulus ≡ pos m → 0 < m → gcdFrom (pos m) n (f .coef) ≡ pos 1 → IsNormal n (unitBy t f)
 unfolding unitBy
 unit-form n true f m t e some g = is-true (λ j l. refl) refl refl
 unit-form n false f m t e some g = is-congruence
@@ -79,21 +71,21 @@ unit-form n false f m t e some g = is-congruence
 -- The normal form ------------------------------------------------------------------------------------------------------
 
 -- "M = 0"
-equality-form : (n : ℕ) (f : Fact) (g : ℤ) → g ≡ gcdFrom (pos 0) n (f .coef) → f .modulus ≡ pos 0 → (z : Bool) → isZero g ≡ z → NormalForm n (equalityBy z g n f)
+equality-form : (n : ℕ) (f : Fact) (g : ℤ) → g ≡ gcdFrom (pos 0) n (f .coef) → f .modulus ≡ pos 0 → (z : Bool) → isZero g ≡ z → IsNormal n (equalityBy z g n f)
 unfolding equalityBy positiveBy divided
 equality-form n f g e m true z = constant (isZero (f .const))
   where
-    constant : (k : Bool) → NormalForm n (cond k trueFact falseFact)
+    constant : (k : Bool) → IsNormal n (cond k trueFact falseFact)
     constant true = is-true (λ j l. refl) refl refl
     constant false = is-false (λ j l. refl) refl refl
 equality-form n f g e m false z = positive (divides g (f .const))
   where
-    positive : (t : Bool) → NormalForm n (positiveBy t n (divided g f))
+    positive : (t : Bool) → IsNormal n (positiveBy t n (divided g f))
     positive false = is-false (λ j l. refl) refl refl
     positive true = sign-form n (isNegative (firstNonzero n (divided g f .coef))) (divided g f) refl (ap (λ x. quotZ x g) m ∙ quot-zero g) (gcdFrom-divided 0 n (f .coef) g e (decides-no (by-zero g) z) 0 (quot-zero g))
 
 -- "M > 0"
-congruence-form : (n : ℕ) (f : Fact) (k : ℕ) → f .modulus ≡ pos k → (f .modulus ≡ pos 0 → ⊥) → (t : Bool) → NormalForm n (congruenceBy t (divided (gcdFrom (f .modulus) n (f .coef)) f))
+congruence-form : (n : ℕ) (f : Fact) (k : ℕ) → f .modulus ≡ pos k → (f .modulus ≡ pos 0 → ⊥) → (t : Bool) → IsNormal n (congruenceBy t (divided (gcdFrom (f .modulus) n (f .coef)) f))
 unfolding congruenceBy divided
 congruence-form n f k e m-ne false = is-false (λ j l. refl) refl refl
 congruence-form n f k e m-ne true = unit-form n (eqb (natAbs (quotZ (f .modulus) g)) 1) (divided g f) m refl new some (gcdFrom-divided k n (f .coef) g (ap (λ x. gcdFrom x n (f .coef)) e) g-ne m (ap (λ x. quotZ x g) (sym e) ∙ new))
@@ -119,11 +111,11 @@ congruence-form n f k e m-ne true = unit-form n (eqb (natAbs (quotZ (f .modulus)
     some : 0 < m
     some = let h = natAbs-pos (quotZ (f .modulus) g) (λ z. m-ne (sym exact ∙ ap (λ x. x *ℤ g) z ∙ zero-*ℤ g)) in let r = ap natAbs new in omega arith
 
-pub normal-form : (n : ℕ) (f : Fact) → pos 0 ≤ℤ f .modulus → NormalForm n (normalForm n f)
+pub normal-form : (n : ℕ) (f : Fact) → pos 0 ≤ℤ f .modulus → IsNormal n (normalForm n f)
 unfolding normalForm normalBy
 normal-form n f h = go (isZero (f .modulus)) refl
   where
-    go : (t : Bool) → isZero (f .modulus) ≡ t → NormalForm n (normalBy t n f)
+    go : (t : Bool) → isZero (f .modulus) ≡ t → IsNormal n (normalBy t n f)
     go true e = let g = gcdFrom (pos 0) n (f .coef) in equality-form n f g refl (by-zero (f .modulus) .yes e) (isZero g) refl
     go false e = let g = gcdFrom (f .modulus) n (f .coef) in
         congruence-form n f (natAbs (f .modulus)) (nonneg-is (f .modulus) h) (decides-no (by-zero (f .modulus)) e) (divides g (f .const))

@@ -1,6 +1,5 @@
 -- "The largest modulus they allow": the raw fact says exactly that A's weighted row can be completed.
 --
---     Completes          integers at the A-local variables, and one for each row, that make A's weighted row true
 --     completed-holds    where there is a completion, the raw fact holds
 --     holds-completed    where the raw fact holds, there is a completion
 --
@@ -22,17 +21,10 @@ use Rattle.problem.specs.Rows.{Rows}
 use Rattle.problem.specs.Occurrence.{occurs, shared, localA}
 use Rattle.checker.specs.Refutation.{columnSum, constantSum}
 use Rattle.checker.specs.Fact.{Holds, modulusOf, rawFact}
+use Rattle.checker.specs.Promises.{Completes}
 use Rattle.checker.proofs.Laws.Weighed.{M-moduli, M-column, M-absent, M-rest}
 
 module _ (n : ℕ) (A B : Rows) (p X : ℕ → ℤ) where
-  -- y is X but at the A-local variables, where it has any integers, and v has an integer for each row, so that
-  -- S·y + the sum of p × l × v is K. An equation's l is 0, so that only a congruence's v counts.
-  pub record Completes : Type 0 where
-    pub y : ℕ → ℤ
-    pub v : ℕ → ℤ
-    pub keeps : (j : ℕ) → j < n → localA A B j ≡ false → y j ≡ X j
-    pub row : dot n (columnSum A p) y +ℤ dot (A .m) (λ i. p i *ℤ A .modulus i) v ≡ constantSum A p
-
   abbrev S : ℕ → ℤ
   S = columnSum A p
 
@@ -53,7 +45,7 @@ module _ (n : ℕ) (A B : Rows) (p X : ℕ → ℤ) where
 
   -- A completion makes the fact hold.
 
-  apart : (c : Completes) (j : ℕ) → j < n → M ∣ℤ (S j *ℤ c .y j -ℤ F j *ℤ X j)
+  apart : (c : Completes n A B p X) (j : ℕ) → j < n → M ∣ℤ (S j *ℤ c .y j -ℤ F j *ℤ X j)
   apart c j l = go (occurs A j) (occurs B j) refl (c .keeps j l) (M-column n A B p j l)
     where
       part : M ∣ℤ S j → M ∣ℤ (S j *ℤ c .y j -ℤ pos 0 *ℤ X j)
@@ -64,7 +56,7 @@ module _ (n : ℕ) (A B : Rows) (p X : ℕ → ℤ) where
       go true false e k h = part h
       go false b e k h = part (M-absent n A B p j e)
 
-  pub completed-holds : Completes → Holds n (rawFact n A B p) X
+  pub completed-holds : Completes n A B p X → Holds n (rawFact n A B p) X
   completed-holds c = record {
     by = ∣-eq (join (dot n S (c .y)) (dot n F X) (dot (A .m) P (c .v)) K (c .row))
         (∣-neg (∣-add (∣-eq (sum-sub n (λ j. S j *ℤ c .y j) (λ j. F j *ℤ X j)) (sum-divides n M (λ j. S j *ℤ c .y j -ℤ F j *ℤ X j) (apart c))) (dot-divides (A .m) M P (c .v) (M-moduli n A B p))));
@@ -110,7 +102,7 @@ module _ (n : ℕ) (A B : Rows) (p X : ℕ → ℤ) where
         turned : (x t z : ℤ) → x *ℤ (t *ℤ z) ≡ t *ℤ (z *ℤ x)
         turned x t z = ring! (x ∷ t ∷ z ∷ []) (search quote depth 40 fits 20000) tt
 
-    completion : Completes
+    completion : Completes n A B p X
     completion = record {
       y = point;
       v = λ i. t *ℤ z i;
@@ -122,11 +114,11 @@ module _ (n : ℕ) (A B : Rows) (p X : ℕ → ℤ) where
         join fx ox wl zp k m a b u e f g = from3 (pos 1) (pos 1) (a +ℤ b) e f g (ring! (fx ∷ ox ∷ wl ∷ zp ∷ k ∷ m ∷ a ∷ b ∷ u ∷ []) (search quote depth 40 fits 20000) tt)
 
   -- M as such a combination: Bezout twice, for the local column sums and then for the p × l
-  pub holds-completed : Holds n (rawFact n A B p) X → Completes
+  pub holds-completed : Holds n (rawFact n A B p) X → Completes n A B p X
   unfolding modulusOf
   holds-completed h = let o = dot-divides n M O X others in make (h .by) o (gcdFrom-bezout (pos 0) n L) (gcdFrom-bezout (gcdFrom (pos 0) n L) (A .m) P)
     where
-      make : M ∣ℤ (dot n F X -ℤ K) → M ∣ℤ dot n O X → Combination (pos 0) n L (gcdFrom (pos 0) n L) → Combination (gcdFrom (pos 0) n L) (A .m) P M → Completes
+      make : M ∣ℤ (dot n F X -ℤ K) → M ∣ℤ dot n O X → Combination (pos 0) n L (gcdFrom (pos 0) n L) → Combination (gcdFrom (pos 0) n L) (A .m) P M → Completes n A B p X
       make h o c d = completion (h .by) (o .by) (d .u) (c .w) (d .w) (h .is) (o .is) (join M (gcdFrom (pos 0) n L) (dot n (c .w) L) (dot (A .m) (d .w) P) (c .u) (d .u) (d .is) (c .is))
         where
           join : (m g wl zp r u : ℤ) → m ≡ u *ℤ g +ℤ zp → g ≡ r *ℤ pos 0 +ℤ wl → m ≡ u *ℤ wl +ℤ zp

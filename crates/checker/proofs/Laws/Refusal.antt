@@ -1,16 +1,14 @@
 -- Each refusal is given exactly in its case. The cases exclude each other, in the paper's order 1, 3, 4, 5, 6, 7.
 --
---     DividesSums      q divides every column sum and every p × l
 --     Tests            by-vector        isVector decides Vector
 --                      by-numerators    areNumerators decides Numerators
 --                      by-sums          dividesSums decides DividesSums
 --                      by-constants     the last test decides that q does not divide the sum of p × d
---     Accepted         the problem is well formed, the vector is in range, and it refutes all rows
---     Says k           the case of refusal k; that of 0 is Accepted
 --     refusal-says     the case of the refusal holds
 --     refusal-is       where the case of k holds, the refusal is k
 --     refusal-none     refusal 0: Accepted
 --     refusal-shape    refusal 1 exactly where the shape fails
+--     interpolant-says, interpolant-is    the same as the first two of `interpolant`'s refusal
 --
 -- Assumes nothing.
 use mathlib.Core.Path.{_≡_, refl, _∙_, ap}
@@ -18,6 +16,7 @@ use mathlib.Core.List.{List}
 use mathlib.Core.Bool.{Bool, true, false, not}
 use Prim.Native.Nat.{ℕ, _+_, _<_, _≤_}
 use native.Mathlib.Omega.{arith}
+use lib.Dec.{eqb}
 use lib.ListN.{length}
 use lib.IntN.{ℤ, pos, natAbs, _*ℤ_}
 use Rattle.integers.specs.Range.{within}
@@ -26,11 +25,9 @@ use Rattle.integers.proofs.Laws.Decide.{Decides, decides-no, decides-false, dec
 use Rattle.problem.specs.Rows.{Rows, rowsOf}
 use Rattle.problem.specs.WellFormed.{million, Shape, WellFormed, shape}
 use Rattle.problem.proofs.Laws.WellFormed.{by-shape, by-well-formed}
-use Rattle.checker.specs.Refutation.{columnSum, constantSum, Refutes, numerator, Vector, Numerators, isVector, areNumerators, dividesSums, unless, sumsRefusal, vectorRefusal, refusal}
-
-pub record DividesSums (n : ℕ) (R : Rows) (q : ℤ) (p : ℕ → ℤ) : Type 0 where
-  pub columns : (j : ℕ) → j < n → q ∣ℤ columnSum R p j
-  pub moduli : (i : ℕ) → i < R .m → q ∣ℤ (p i *ℤ R .modulus i)
+use Rattle.checker.specs.Refutation.{columnSum, constantSum, numerator, Vector, Numerators, isVector, areNumerators, dividesSums, unless, sumsRefusal, vectorRefusal, refusal}
+use Rattle.checker.specs.Promises.{DividesSums, Accepted, Says, says-0, says-1, says-3, says-4, says-5, says-6, says-7, InterpolantSays, shape-fails, run-fails, as-check}
+use Rattle.checker.specs.Answer.{interpolantRefusal}
 
 -- Tests ----------------------------------------------------------------------------------------------------------------
 
@@ -68,26 +65,11 @@ module _ (n ma mb : ℕ) (a b : List ℤ) (q : ℤ) (p : List ℤ) where
   abbrev R : Rows
   R = rowsOf n ma mb a b
 
-  pub record Accepted : Type 0 where
-    pub well-formed : WellFormed n ma mb a b
-    pub vector : Vector (ma + mb) q p
-    pub numerators : Numerators (ma + mb) (numerator p)
-    pub refutes : Refutes n R q (numerator p)
-
-  pub data Says : ℕ → Type 0 where
-    says-1 : (Shape n ma mb a b → ⊥) → Says 1
-    says-3 : Shape n ma mb a b → (WellFormed n ma mb a b → ⊥) → Says 3
-    says-4 : WellFormed n ma mb a b → (Vector (ma + mb) q p → ⊥) → Says 4
-    says-5 : WellFormed n ma mb a b → Vector (ma + mb) q p → (Numerators (ma + mb) (numerator p) → ⊥) → Says 5
-    says-6 : WellFormed n ma mb a b → Vector (ma + mb) q p → Numerators (ma + mb) (numerator p) → (DividesSums n R q (numerator p) → ⊥) → Says 6
-    says-7 : WellFormed n ma mb a b → Vector (ma + mb) q p → Numerators (ma + mb) (numerator p) → DividesSums n R q (numerator p) → q ∣ℤ constantSum R (numerator p) → Says 7
-    says-0 : Accepted → Says 0
-
-  test : (t : Bool) (k rest : ℕ) {H : Type 0} → Decides t H → ((H → ⊥) → Says k) → (H → Says rest) → Says (unless t k rest)
+  test : (t : Bool) (k rest : ℕ) {H : Type 0} → Decides t H → ((H → ⊥) → Says n ma mb a b q p k) → (H → Says n ma mb a b q p rest) → Says n ma mb a b q p (unless t k rest)
   test true k rest d refused passed = passed (d .yes refl)
   test false k rest d refused passed = refused (decides-no d refl)
 
-  pub refusal-says : Says (refusal n ma mb a b q p)
+  pub refusal-says : Says n ma mb a b q p (refusal n ma mb a b q p)
   unfolding refusal vectorRefusal sumsRefusal
   refusal-says =
       test _ _ _ (by-shape n ma mb a b) says-1 (λ s.
@@ -107,7 +89,7 @@ module _ (n ma mb : ℕ) (a b : List ℤ) (q : ℤ) (p : List ℤ) where
   unfolding vectorRefusal
   at-sums w v u = at-vector w ∙ pass _ _ (by-vector (ma + mb) q p) v ∙ pass _ _ (by-numerators (ma + mb) (numerator p)) u
 
-  pub refusal-is : {k : ℕ} → Says k → refusal n ma mb a b q p ≡ k
+  pub refusal-is : {k : ℕ} → Says n ma mb a b q p k → refusal n ma mb a b q p ≡ k
   unfolding refusal vectorRefusal sumsRefusal
   refusal-is (says-1 h) = fail _ _ (by-shape n ma mb a b) h
   refusal-is (says-3 s h) = pass _ _ (by-shape n ma mb a b) s ∙ fail _ _ (by-well-formed n ma mb a b) h
@@ -119,7 +101,7 @@ module _ (n ma mb : ℕ) (a b : List ℤ) (q : ℤ) (p : List ℤ) where
       ∙ pass _ _ (by-sums n R q (numerator p)) (record { columns = c .refutes .columns; moduli = c .refutes .moduli })
       ∙ pass _ _ (by-constants R q (numerator p)) (c .refutes .constants)
 
-  says-none : {k : ℕ} → Says k → k ≡ 0 → Accepted
+  says-none : {k : ℕ} → Says n ma mb a b q p k → k ≡ 0 → Accepted n ma mb a b q p
   says-none (says-1 h) e = absurd (omega arith)
   says-none (says-3 s h) e = absurd (omega arith)
   says-none (says-4 w h) e = absurd (omega arith)
@@ -128,10 +110,10 @@ module _ (n ma mb : ℕ) (a b : List ℤ) (q : ℤ) (p : List ℤ) where
   says-none (says-7 w v u d h) e = absurd (omega arith)
   says-none (says-0 c) e = c
 
-  pub refusal-none : refusal n ma mb a b q p ≡ 0 → Accepted
+  pub refusal-none : refusal n ma mb a b q p ≡ 0 → Accepted n ma mb a b q p
   refusal-none = says-none refusal-says
 
-  says-shape : {k : ℕ} → Says k → k ≡ 1 → Shape n ma mb a b → ⊥
+  says-shape : {k : ℕ} → Says n ma mb a b q p k → k ≡ 1 → Shape n ma mb a b → ⊥
   says-shape (says-1 h) e = h
   says-shape (says-3 s h) e = absurd (omega arith)
   says-shape (says-4 w h) e = absurd (omega arith)
@@ -142,3 +124,22 @@ module _ (n ma mb : ℕ) (a b : List ℤ) (q : ℤ) (p : List ℤ) where
 
   pub refusal-shape : (refusal n ma mb a b q p ≡ 1 → shape n ma mb a b ≡ false) × (shape n ma mb a b ≡ false → refusal n ma mb a b q p ≡ 1)
   refusal-shape = ((λ e. decides-false (by-shape n ma mb a b) (says-shape refusal-says e)), (λ e. refusal-is (says-1 (decides-no (by-shape n ma mb a b) e))))
+
+  module _ (long : ℕ) where
+    pub interpolant-says : InterpolantSays n ma mb a b q p long (interpolantRefusal n ma mb a b q p long)
+    unfolding interpolantRefusal
+    interpolant-says = go (shape n ma mb a b) (by-shape n ma mb a b)
+      where
+        sized : Shape n ma mb a b → (t : Bool) → Decides t (long ≡ n) → InterpolantSays n ma mb a b q p long (unless t 2 (refusal n ma mb a b q p))
+        sized s true d = as-check s (d .yes refl) refusal-says
+        sized s false d = run-fails s (decides-no d refl)
+
+        go : (t : Bool) → Decides t (Shape n ma mb a b) → InterpolantSays n ma mb a b q p long (unless t 1 (unless (eqb long n) 2 (refusal n ma mb a b q p)))
+        go true d = sized (d .yes refl) (eqb long n) (by-eq long n)
+        go false d = shape-fails (decides-no d refl)
+
+    pub interpolant-is : {k : ℕ} → InterpolantSays n ma mb a b q p long k → interpolantRefusal n ma mb a b q p long ≡ k
+    unfolding interpolantRefusal
+    interpolant-is (shape-fails h) = fail _ _ (by-shape n ma mb a b) h
+    interpolant-is (run-fails s h) = pass _ _ (by-shape n ma mb a b) s ∙ fail _ _ (by-eq long n) h
+    interpolant-is (as-check s e c) = pass _ _ (by-shape n ma mb a b) s ∙ pass _ _ (by-eq long n) e ∙ refusal-is c

@@ -1,6 +1,5 @@
 -- The normal form says the same as the fact.
 --
---     Same n f g       f and g hold at the same points
 --     Parts            divided-same     all numbers divided by a common factor that is not 0
 --                      false-same       FALSE, where a common factor of modulus and coefficients does not divide the constant
 --                      sign-same        coefficients and constant negated
@@ -32,10 +31,7 @@ use Rattle.integers.proofs.Laws.Gcd.{gcdFrom-start, gcdFrom-each}
 use Rattle.integers.proofs.Laws.Decide.{by-zero, decides-no}
 use Rattle.checker.specs.Fact.{Fact, Holds}
 use Rattle.checker.specs.NormalForm.{trueFact, falseFact, divided, firstNonzero, signBy, residue, residues, positiveBy, equalityBy, unitBy, congruenceBy, normalBy, normalForm}
-
-pub record Same (n : ℕ) (f g : Fact) : Type 0 where
-  pub to : (X : ℕ → ℤ) → Holds n f X → Holds n g X
-  pub from : (X : ℕ → ℤ) → Holds n g X → Holds n f X
+use Rattle.checker.specs.Promises.{Same}
 
 same-refl : {n : ℕ} (f : Fact) → Same n f f
 same-refl f = record { to = λ X h. h; from = λ X h. h }

@@ -2,7 +2,7 @@
 --
 --     Rows            absent-column    what divides each p × l divides the column sum of a variable that does not occur
 --                     weighted         a point that meets the rows meets their weighted sum, modulo what divides each p × l
---                     refuted          where a vector refutes, no point meets the rows
+--                     no-point          where a vector refutes, no point meets the rows
 --     Both sides      beyond           B's numerators, which stand after A's
 --                     both-column      a column sum over all rows is A's and B's
 --                     both-constant    so is the sum of p × d
@@ -54,8 +54,8 @@ module _ (R : Rows) (p : ℕ → ℤ) (d : ℤ) (moduli : (i : ℕ) → i < R .m
           ∙ sum-sub (R .m) (λ i. p i *ℤ value i) (λ i. p i *ℤ R .const i)
           ∙ ap (λ x. x -ℤ constantSum R p) (dot-exchange (R .m) n p X (R .coef))
 
-pub refuted : (n : ℕ) (R : Rows) (q : ℤ) (p X : ℕ → ℤ) → Refutes n R q p → Meets n R X → ⊥
-refuted n R q p X r s = r .constants (congruent-∣ q (dot n (columnSum R p) X) (constantSum R p) (weighted R p q (r .moduli) n X s) (dot-divides n q (columnSum R p) X (r .columns)))
+pub no-point : (n : ℕ) (R : Rows) (q : ℤ) (p X : ℕ → ℤ) → Refutes n R q p → Meets n R X → ⊥
+no-point n R q p X r s = r .constants (congruent-∣ q (dot n (columnSum R p) X) (constantSum R p) (weighted R p q (r .moduli) n X s) (dot-divides n q (columnSum R p) X (r .columns)))
 
 -- Both sides -----------------------------------------------------------------------------------------------------------
 

@@ -6,29 +6,28 @@
 --     interpolant-same    the interpolant of any vector holds at the points at which its raw fact holds
 --     interpolant-form    it is normal
 --
--- Same is defined in Laws/Same, NormalForm in Laws/Form. Assumes nothing.
+-- Assumes nothing.
 use Prim.Native.Nat.{ℕ}
 use lib.IntN.{ℤ, pos}
 use lib.Signed.{_≤ℤ_}
 use Rattle.problem.specs.Rows.{Rows}
 use Rattle.checker.specs.Fact.{Fact, rawFact}
 use Rattle.checker.specs.NormalForm.{normalForm, interpolantOf}
+use Rattle.checker.specs.Promises.{Same, IsNormal}
 use Rattle.checker.proofs.Laws.Same as Points
-use Rattle.checker.proofs.Laws.Same.{Same}
 use Rattle.checker.proofs.Laws.Form as Form
-use Rattle.checker.proofs.Laws.Form.{NormalForm}
 use Rattle.checker.proofs.Laws.Bounds.{modulus-low}
 
 module _ (n : ℕ) (f : Fact) where
   pub normal-same : Same n (normalForm n f) f
   normal-same = Points.normal-same n f
 
-  pub normal-form : pos 0 ≤ℤ f .modulus → NormalForm n (normalForm n f)
+  pub normal-form : pos 0 ≤ℤ f .modulus → IsNormal n (normalForm n f)
   normal-form = Form.normal-form n f
 
 module _ (n : ℕ) (A B : Rows) (p : ℕ → ℤ) where
   pub interpolant-same : Same n (interpolantOf n A B p) (rawFact n A B p)
   interpolant-same = normal-same n (rawFact n A B p)
 
-  pub interpolant-form : NormalForm n (interpolantOf n A B p)
+  pub interpolant-form : IsNormal n (interpolantOf n A B p)
   interpolant-form = normal-form n (rawFact n A B p) (modulus-low n A B p)

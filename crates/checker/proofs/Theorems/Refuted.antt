@@ -16,7 +16,7 @@ use Rattle.checker.proofs.Laws.Weighed as Weighed
 use Rattle.checker.proofs.Laws.Refusal.{refusal-none}
 
 pub no-point : (n : ℕ) (R : Rows) (q : ℤ) (p : ℕ → ℤ) → Refutes n R q p → (X : ℕ → ℤ) → Meets n R X → ⊥
-no-point n R q p r X s = Weighed.refuted n R q p X r s
+no-point n R q p r X s = Weighed.no-point n R q p X r s
 
 pub refuted : (n ma mb : ℕ) (a b : List ℤ) (q : ℤ) (p : List ℤ) → refusal n ma mb a b q p ≡ 0 → (X : ℕ → ℤ) → Meets n (sideOf n ma a) X → Meets n (sideOf n mb b) X → ⊥
 refuted n ma mb a b q p e X s t = no-point n (rowsOf n ma mb a b) q (numerator p) (refusal-none n ma mb a b q p e .refutes) X (meets-both n (sideOf n ma a) (sideOf n mb b) X s t)

@@ -14,9 +14,9 @@ use Rattle.checker.proofs.check.Tie as tie
 number-is : (c : tie.After-refusal) → let s = c .before .args in c .refusal .result ≡ refusal (s .n) (s .ma) (s .mb) (s .a .now) (s .b .now) (s .q) (s .p .now)
 number-is c = let s = c .before .args in c .refusal .ensures ∙ ap (λ (q : ℤ). refusal (s .n) (s .ma) (s .mb) (s .a .now) (s .b .now) q (s .p .now)) (stored-is (c .before .fits .q))
 
-refused-is : (k : ℕ) → (k ≡ 0 → ⊥) → Refused k ≡ verdictOf k
-refused-is zero h = absurd (h refl)
-refused-is (suc k) h = refl
+answered-refused : (k : ℕ) → (k ≡ 0 → ⊥) → Refused k ≡ verdictOf k
+answered-refused zero h = absurd (h refl)
+answered-refused (suc k) h = refl
 
 refusal-requires : tie.Need-refusal-requires
 refusal-requires c κs = search needs
@@ -25,7 +25,7 @@ returns : tie.Need-returns
 returns c = ap verdictOf (sym (c .if1 .taken) ∙ number-is (c .before))
 
 returns-2 : tie.Need-returns-2
-returns-2 c = refused-is (c .before .refusal .result) (c .if1 .left) ∙ ap verdictOf (number-is (c .before))
+returns-2 c = answered-refused (c .before .refusal .result) (c .if1 .left) ∙ ap verdictOf (number-is (c .before))
 
 pub check-spec : {M : Type 1} → statement M
 check-spec = tie.close (tie.spec refusal-requires returns returns-2)

@@ -24,9 +24,9 @@ use Rattle.checker.proofs.interpolant.Statement.{statement}
 use Rattle.checker.proofs.interpolant.Tie as tie
 
 -- a number other than 0 is answered as a refusal, and leaves the run
-refused-is : (k : ℕ) (f : Fact) → (k ≡ 0 → ⊥) → Unstated k ≡ answerOf k f
-refused-is zero f h = absurd (h refl)
-refused-is (suc k) f h = refl
+answered-refused : (k : ℕ) (f : Fact) → (k ≡ 0 → ⊥) → Unstated k ≡ answerOf k f
+answered-refused zero f h = absurd (h refl)
+answered-refused (suc k) f h = refl
 
 run-left : (k n : ℕ) (f : Fact) (before : List ℤ) → (k ≡ 0 → ⊥) → before ≡ runOf k n f before
 run-left zero n f before h = absurd (h refl)
@@ -98,7 +98,7 @@ returns-3 c =
     let s = r .before in
     let k = r .refusal .result in
     let e = answer s k true true (shape-passes (l .before)) (length-is l) (sym (number-is r)) in (
-      refused-is k (interpolant s) (c .if3 .taken) ∙ ap (λ (k : ℕ). answerOf k (interpolant s)) e,
+      answered-refused k (interpolant s) (c .if3 .taken) ∙ ap (λ (k : ℕ). answerOf k (interpolant s)) e,
       run-left k (s .args .n) (interpolant s) (s .args .coeffs .now) (c .if3 .taken) ∙ ap (λ (k : ℕ). runOf k (s .args .n) (interpolant s) (s .args .coeffs .now)) e,
     )
 
