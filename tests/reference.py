@@ -1,4 +1,4 @@
-"""What the checker answers, written from the paper (01-scope.md) alone, to be compared with the proved code.
+"""What the checker answers, written from the paper alone, to be compared with the proved code.
 
 meets(n, rows, X)         whether the point X meets every row; true for no rows
 check(.., q, p)           0 for a vector that refutes, or the refusal 1, 3, 4, 5, 6 or 7

@@ -1,4 +1,4 @@
-// Calls the checker on the examples of the article (001), on the paper's cases 5 to 7, at the ends of the ranges, and for each
+// Calls the checker on the examples of the article, on the paper's cases 5 to 7, at the ends of the ranges, and for each
 // refusal. A line has the verdict of `check` and the answer of `interpolant`.
 //
 // The variables x, y, z are x1, x2, x3. A row is its coefficients, its constant and its modulus. A comment above a call derives

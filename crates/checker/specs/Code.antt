@@ -7,7 +7,6 @@
 --     factOf, Small        the fact that a run, a constant and a modulus make; every number of a fact is at most C
 --     shortForm            the normal form with fewer cases, as the code computes it (short-same of proofs/Laws/Short.antt)
 --     changed, Allowed     a number after a change, and when the change is allowed
-use mathlib.Core.Path.{_≡_}
 use mathlib.Core.List.{List}
 use mathlib.Core.Bool.{Bool, true, false, cond}
 use Prim.Native.Nat.{ℕ, _+_, _*_, _<_, _≤_}

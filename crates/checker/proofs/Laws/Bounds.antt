@@ -5,7 +5,6 @@
 --                    local-small      so is their gcd at the A-local variables
 --                    raw-small        and every number of the raw fact
 --                    modulus-low      its modulus is 0 or above
---     Residues       residue-small    |m| ≤ C and |x| ≤ C: |residue m x| ≤ 2 C
 --
 -- Assumes nothing.
 use mathlib.Core.Path.{sym, _∙_, ap, subst}
@@ -55,7 +54,7 @@ module _ (n ma mb : ℕ) (a b p : List ℤ) (w : Weighable n ma mb a b p) where
   numerator-in : (i : ℕ) → i < ma → natAbs (numerator p i) ≤ million
   numerator-in i l = w .numerators .in-range i (omega arith)
 
-  pub column-small : (j : ℕ) → j < n → natAbs (columnSum A (numerator p) j) ≤ largest
+  column-small : (j : ℕ) → j < n → natAbs (columnSum A (numerator p) j) ≤ largest
   column-small j l = dot-small ma (numerator p) (λ i. A .coef i j) few numerator-in (λ i k. w .well-formed .ranges-a .row i k .coef-in j l)
 
   pub local-small : natAbs (gcdFrom (pos 0) n (localSum n ma mb a b p)) ≤ largest
@@ -78,13 +77,3 @@ modulus-low n A B p =
     let g = gcdFrom-natural 0 n (λ j. cond (localA A B j) (columnSum A p j) (pos 0)) in
     let m = gcdFrom-natural (g .0) (A .m) (λ i. p i *ℤ A .modulus i) in
     subst (λ x. pos 0 ≤ℤ x) (sym (ap (λ x. gcdFrom x (A .m) (λ i. p i *ℤ A .modulus i)) (g .1) ∙ m .1)) (parts-le (pos 0) (pos (m .0)) (omega arith))
-
--- Residues -------------------------------------------------------------------------------------------------------------
-
-pub residue-small : (m x : ℤ) (C : ℕ) → natAbs m ≤ C → natAbs x ≤ C → natAbs (residue m x) ≤ 2 * C
-unfolding residue
-residue-small m x C m-in x-in = go (isNegative (remZ x m))
-  where
-    go : (t : Bool) → natAbs (cond t (remZ x m +ℤ m) (remZ x m)) ≤ 2 * C
-    go true = omega (arith, natAbs-add (remZ x m) m, rem-le x m)
-    go false = omega (arith, rem-le x m)

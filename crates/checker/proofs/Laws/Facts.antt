@@ -7,7 +7,7 @@
 -- Assumes nothing.
 use mathlib.Core.Path.{_≡_, sym, _∙_, ap, subst}
 use mathlib.Core.List.{List}
-use Prim.Native.Nat.{ℕ, _/_, _<_, _≤_}
+use Prim.Native.Nat.{ℕ, _/_, _≤_}
 use native.Mathlib.Omega.{arith}
 use native.Mathlib.Decide.{decLt}
 use lib.ListN.{length}
@@ -17,7 +17,6 @@ use Rattle.integers.specs.Run.{at, tabulate}
 use Rattle.integers.proofs.Laws.Order.{nonneg-is, parts-le}
 use Rattle.integers.proofs.Laws.Division.{quot-le, quot-zero}
 use Rattle.integers.proofs.Laws.Run.{at-end, tabulate-all}
-use Rattle.checker.specs.Fact.{Fact}
 use Rattle.checker.specs.NormalForm.{divided}
 use Rattle.checker.specs.Code.{factOf, Small}
 

@@ -36,7 +36,7 @@ pub first-none : (c : ℕ → ℤ) → firstNonzero 0 c ≡ pos 0
 unfolding firstNonzero
 first-none c = refl
 
-pub first-more : (k : ℕ) (c : ℕ → ℤ) → firstNonzero (k + 1) c ≡ orElse (firstNonzero k c) (c k)
+first-more : (k : ℕ) (c : ℕ → ℤ) → firstNonzero (k + 1) c ≡ orElse (firstNonzero k c) (c k)
 unfolding firstNonzero
 first-more k c = rw add-one
 

@@ -48,7 +48,7 @@ sign-form n false f e m g = let x = firstNonzero n (f .coef) in
 
 -- Congruences ----------------------------------------------------------------------------------------------------------
 
-pub residue-in : (k : ℕ) (x : ℤ) → 0 < k → (pos 0 ≤ℤ residue (pos k) x) × (residue (pos k) x <ℤ pos k)
+residue-in : (k : ℕ) (x : ℤ) → 0 < k → (pos 0 ≤ℤ residue (pos k) x) × (residue (pos k) x <ℤ pos k)
 unfolding residue
 residue-in k x h = go (remZ x (pos k)) (rem-lt x (pos k) h) (isNegative (remZ x (pos k))) refl
   where

@@ -14,7 +14,7 @@
 use mathlib.Core.Path.{_≡_, refl, _∙_, ap}
 use mathlib.Core.List.{List}
 use mathlib.Core.Bool.{Bool, true, false, not}
-use Prim.Native.Nat.{ℕ, _+_, _<_, _≤_}
+use Prim.Native.Nat.{ℕ, _+_, _≤_}
 use native.Mathlib.Omega.{arith}
 use lib.Dec.{eqb}
 use lib.ListN.{length}
@@ -31,7 +31,7 @@ use Rattle.checker.specs.Answer.{interpolantRefusal}
 
 -- Tests ----------------------------------------------------------------------------------------------------------------
 
-pub by-vector : (m : ℕ) (q : ℤ) (p : List ℤ) → Decides (isVector m q p) (Vector m q p)
+by-vector : (m : ℕ) (q : ℤ) (p : List ℤ) → Decides (isVector m q p) (Vector m q p)
 by-vector m q p = by-same
     (λ h. record { long = h .0; q-low = h .1 .0; q-high = h .1 .1 })
     (λ v. (v .long, (v .q-low, v .q-high)))
@@ -41,14 +41,14 @@ pub by-numerators : (m : ℕ) (p : ℕ → ℤ) → Decides (areNumerators m p) 
 by-numerators m p = by-same (λ h. record { in-range = h }) (λ s. s .in-range)
     (by-all m (λ i. within million (p i)) (λ i. natAbs (p i) ≤ million) (λ i. by-within million (p i)))
 
-pub by-sums : (n : ℕ) (R : Rows) (q : ℤ) (p : ℕ → ℤ) → Decides (dividesSums n R q p) (DividesSums n R q p)
+by-sums : (n : ℕ) (R : Rows) (q : ℤ) (p : ℕ → ℤ) → Decides (dividesSums n R q p) (DividesSums n R q p)
 by-sums n R q p = by-same
     (λ h. record { columns = h .0; moduli = h .1 })
     (λ d. (d .columns, d .moduli))
     (by-and (by-all n (λ j. divides q (columnSum R p j)) (λ j. q ∣ℤ columnSum R p j) (λ j. by-divides q (columnSum R p j)))
     (by-all (R .m) (λ i. divides q (p i *ℤ R .modulus i)) (λ i. q ∣ℤ (p i *ℤ R .modulus i)) (λ i. by-divides q (p i *ℤ R .modulus i))))
 
-pub by-constants : (R : Rows) (q : ℤ) (p : ℕ → ℤ) → Decides (not (divides q (constantSum R p))) (q ∣ℤ constantSum R p → ⊥)
+by-constants : (R : Rows) (q : ℤ) (p : ℕ → ℤ) → Decides (not (divides q (constantSum R p))) (q ∣ℤ constantSum R p → ⊥)
 by-constants R q p = by-not (by-divides q (constantSum R p))
 
 -- One test of several --------------------------------------------------------------------------------------------------

@@ -76,14 +76,14 @@ module _ (n : ℕ) (f : Fact) (g : ℤ) (g-ne : g ≡ pos 0 → ⊥) (in-modulus
       dots = sym (sum-scale n g (λ j. quotZ (f .coef j) g *ℤ X j))
           ∙ sum-ext n (λ j. g *ℤ (quotZ (f .coef j) g *ℤ X j)) (λ j. f .coef j *ℤ X j) (λ j l. sym (*ℤ-assoc g (quotZ (f .coef j) g) (X j)) ∙ ap (λ x. x *ℤ X j) (whole (f .coef j) (in-coefs j l)))
 
-  pub divided-same : Same n (divided g f) f
+  divided-same : Same n (divided g f) f
   unfolding divided
   divided-same = record {
     to = λ X h. record { by = ∣-eq (value X) (subst (λ m. m ∣ℤ (g *ℤ rest X)) (whole (f .modulus) in-modulus) (∣-scale g (h .by))) };
     from = λ X h. record { by = ∣-cancel g g-ne (subst (λ m. m ∣ℤ (g *ℤ rest X)) (sym (whole (f .modulus) in-modulus)) (∣-eq (sym (value X)) (h .by))) };
   }
 
-pub sign-same : (n : ℕ) (t : Bool) (f : Fact) → Same n (signBy t f) f
+sign-same : (n : ℕ) (t : Bool) (f : Fact) → Same n (signBy t f) f
 unfolding signBy
 sign-same n false f = same-refl f
 sign-same n true f = record {
@@ -102,7 +102,7 @@ residue-near m x = go (isNegative (remZ x m))
     go false = record { by = quotZ x m; is = from1 (negsuc 0) (quot-rem x m) (ring! (x ∷ m ∷ quotZ x m ∷ remZ x m ∷ []) (search quote depth 40 fits 20000) tt) }
     go true = record { by = quotZ x m -ℤ pos 1; is = from1 (negsuc 0) (quot-rem x m) (ring! (x ∷ m ∷ quotZ x m ∷ remZ x m ∷ []) (search quote depth 40 fits 20000) tt) }
 
-pub residues-same : (n : ℕ) (f : Fact) → Same n (residues f) f
+residues-same : (n : ℕ) (f : Fact) → Same n (residues f) f
 residues-same n f = let m = f .modulus in record {
   to = λ X h. record { by = dot-near n m (λ j. residue m (f .coef j)) (f .coef) X (residue m (f .const)) (f .const) (λ j l. back (f .coef j)) (back (f .const)) (h .by) };
   from = λ X h. record { by = dot-near n m (f .coef) (λ j. residue m (f .coef j)) X (f .const) (residue m (f .const)) (λ j l. residue-near m (f .coef j)) (residue-near m (f .const)) (h .by) };

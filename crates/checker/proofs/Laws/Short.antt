@@ -56,7 +56,7 @@ module _ (n : ℕ) where
   unit-ext true f h e = agree-eq refl
   unit-ext false f h e = record { coefs = λ j l. ap₂ residue (e .modulus) (e .coefs j l); const = ap₂ residue (e .modulus) (e .const); modulus = e .modulus }
 
-  pub finished-ext : (f h : Fact) → Agree n f h → Agree n (finished n f) (finished n h)
+  finished-ext : (f h : Fact) → Agree n f h → Agree n (finished n f) (finished n h)
   unfolding finished finishedBy
   finished-ext f h e = subst (λ m. Agree n (finished n f) (finishedBy (isZero m) n h)) (e .modulus) (go (isZero (f .modulus)))
     where

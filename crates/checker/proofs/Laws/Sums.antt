@@ -71,7 +71,7 @@ module _ (n ma mb : ℕ) (a b p : List ℤ) (w : Weighable n ma mb a b p) (colum
 
 -- Equal ----------------------------------------------------------------------------------------------------------------
 
-pub weights-a : (p : List ℤ) (i : ℕ) → weights p 0 i ≡ numerator p i
+weights-a : (p : List ℤ) (i : ℕ) → weights p 0 i ≡ numerator p i
 weights-a p i = let e : i + 0 ≡ i = omega arith in ap (at p) e
 
 pub side-sum : (m : ℕ) (p : List ℤ) (c : ℕ → ℤ) → dot m (weights p 0) c ≡ dot m (numerator p) c

@@ -2,7 +2,7 @@
 --
 --     Rows            absent-column    what divides each p × l divides the column sum of a variable that does not occur
 --                     weighted         a point that meets the rows meets their weighted sum, modulo what divides each p × l
---                     no-point          where a vector refutes, no point meets the rows
+--                     no-point         where a vector refutes, no point meets the rows
 --     Both sides      beyond           B's numerators, which stand after A's
 --                     both-column      a column sum over all rows is A's and B's
 --                     both-constant    so is the sum of p × d
@@ -40,7 +40,7 @@ use Rattle.checker.specs.Fact.{Holds, modulusOf, rawFact}
 -- Rows -----------------------------------------------------------------------------------------------------------------
 
 module _ (R : Rows) (p : ℕ → ℤ) (d : ℤ) (moduli : (i : ℕ) → i < R .m → d ∣ℤ (p i *ℤ R .modulus i)) where
-  pub absent-column : (j : ℕ) → occurs R j ≡ false → d ∣ℤ columnSum R p j
+  absent-column : (j : ℕ) → occurs R j ≡ false → d ∣ℤ columnSum R p j
   absent-column j e = sum-divides (R .m) d (λ i. p i *ℤ R .coef i j) (λ i l. ∣-trans (moduli i l) (∣-scale (p i) (absent R j e i l)))
 
   pub weighted : (n : ℕ) (X : ℕ → ℤ) → Meets n R X → Congruent d (dot n (columnSum R p) X) (constantSum R p)
@@ -63,10 +63,10 @@ abbrev pub beyond : Rows → (ℕ → ℤ) → ℕ → ℤ
 beyond A p i = p (i + A .m)
 
 module _ (A B : Rows) (p : ℕ → ℤ) where
-  pub both-column : (j : ℕ) → columnSum (both A B) p j ≡ columnSum A p j +ℤ columnSum B (beyond A p) j
+  both-column : (j : ℕ) → columnSum (both A B) p j ≡ columnSum A p j +ℤ columnSum B (beyond A p) j
   both-column j = both-dot (A .m) (B .m) p (λ i. A .coef i j) (λ i. B .coef i j)
 
-  pub both-constant : constantSum (both A B) p ≡ constantSum A p +ℤ constantSum B (beyond A p)
+  both-constant : constantSum (both A B) p ≡ constantSum A p +ℤ constantSum B (beyond A p)
   both-constant = both-dot (A .m) (B .m) p (A .const) (B .const)
 
   module _ {q : ℤ} (moduli : (i : ℕ) → i < both A B .m → q ∣ℤ (p i *ℤ both A B .modulus i)) where

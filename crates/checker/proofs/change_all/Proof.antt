@@ -1,15 +1,14 @@
 -- `checker::change_all` meets its contract: the places passed are changed, the others are as they were. Assumes nothing.
 use mathlib.Core.Path.{_≡_, refl, sym, _∙_, ap, ap₂, subst}
 use mathlib.Core.List.{List}
-use Prim.Native.Nat.{ℕ, _+_, _-_, _<_, _≤_, _^_}
-use native.Mathlib.Nat.{le-antisymm}
+use Prim.Native.Nat.{ℕ, _+_, _-_, _≤_}
 use native.Mathlib.Omega.{arith}
 use lib.ListN.{length, set}
 use lib.IntN.{ℤ, natAbs}
-use Rattle.integers.specs.Run.{at, tabulate}
+use Rattle.integers.specs.Run.{at}
 use Rattle.integers.proofs.Laws.Bits.{fits, stored, stored-is}
 use Rattle.integers.proofs.Laws.Run.{filled, filled-none, filled-more, filled-length, filled-later, filled-all}
-use Rattle.checker.specs.Code.{changed, Allowed, largest}
+use Rattle.checker.specs.Code.{changed, largest}
 use Rattle.checker.proofs.change_all.Statement.{statement}
 use Rattle.checker.proofs.change_all.Tie as tie
 

@@ -6,7 +6,6 @@ use lib.IntN.{ℤ}
 use Rattle.integers.proofs.Laws.Bits.{stored-is}
 use Rattle.checker.specs.Refutation.{refusal}
 use Rattle.checker.specs.Answer.{verdictOf}
-use Rattle.checker.specs.declared.Verdict.{Verdict}
 use Rattle.checker.specs.declared.Verdict.the-variants.{Refused}
 use Rattle.checker.proofs.check.Statement.{statement}
 use Rattle.checker.proofs.check.Tie as tie

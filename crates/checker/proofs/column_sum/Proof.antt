@@ -1,7 +1,7 @@
 -- `checker::column_sum` meets its contract: the total is the sum over the rows passed, and 12 products of a million squared
 -- stay far below 2^63. Assumes nothing.
-use mathlib.Core.Path.{_≡_, refl, sym, _∙_, ap, ap₂, subst}
-use Prim.Native.Nat.{ℕ, _+_, _*_, _-_, _<_, _≤_}
+use mathlib.Core.Path.{_≡_, sym, _∙_, ap, ap₂, subst}
+use Prim.Native.Nat.{ℕ, _+_, _*_, _-_, _≤_}
 use native.Mathlib.Nat.{le-antisymm}
 use native.Mathlib.Omega.{arith}
 use lib.IntN.{ℤ, natAbs, _+ℤ_, _*ℤ_}
@@ -11,7 +11,7 @@ use Rattle.integers.specs.Sum.{dot}
 use Rattle.integers.proofs.Laws.Magnitude.{mul-bound}
 use Rattle.integers.proofs.Laws.Bits.{stored, stored-is}
 use Rattle.integers.proofs.Laws.Sum.{sum-none, sum-more, dot-bound}
-use Rattle.checker.specs.Code.{numbers, weights, Summable, largest}
+use Rattle.checker.specs.Code.{numbers, weights, largest}
 use Rattle.checker.proofs.column_sum.Statement.{statement}
 use Rattle.checker.proofs.column_sum.Tie as tie
 

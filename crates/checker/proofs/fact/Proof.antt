@@ -14,10 +14,10 @@ use Rattle.integers.proofs.Laws.Bits.{stored, stored-is}
 use Rattle.integers.proofs.Laws.Gcd.{gcdFrom-abs}
 use Rattle.integers.proofs.Laws.Run.{tabulate-length, tabulate-at, tabulate-ext}
 use Rattle.problem.specs.Rows.{Rows, sideOf}
-use Rattle.checker.specs.Refutation.{constantSum, numerator}
+use Rattle.checker.specs.Refutation.{numerator}
 use Rattle.checker.specs.Fact.{Fact, modulusOf, rawFact}
 use Rattle.checker.specs.Answer.{interpolantFor}
-use Rattle.checker.specs.Code.{numbers, weights, sharedSum, localSum, largest, factOf, Small, shortForm}
+use Rattle.checker.specs.Code.{numbers, weights, sharedSum, localSum, largest, factOf, shortForm}
 use Rattle.checker.specs.declared.Answer.the-variants.{Fact as Stated}
 use Rattle.checker.proofs.Laws.Short.{Agree, agree-trans, short-ext, short-same}
 use Rattle.checker.proofs.Laws.Bounds.{local-small, raw-small, modulus-low}

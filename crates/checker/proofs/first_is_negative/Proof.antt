@@ -1,12 +1,11 @@
 -- `checker::first_is_negative` meets its contract: the coefficients passed are 0. Assumes nothing.
 use mathlib.Core.Path.{_≡_, sym, _∙_, ap}
-use mathlib.Core.Bool.{true, false}
-use Prim.Native.Nat.{ℕ, _+_, _-_, _≤_}
+use Prim.Native.Nat.{ℕ, _-_, _≤_}
 use native.Mathlib.Nat.{le-antisymm}
 use native.Mathlib.Omega.{arith}
 use borrow.Author.Tests.{not-true, not-false}
 use lib.ListN.{length}
-use lib.IntN.{ℤ, pos}
+use lib.IntN.{pos}
 use Rattle.integers.specs.Range.{isZero, isNegative}
 use Rattle.integers.specs.Run.{at}
 use Rattle.integers.proofs.Laws.Bits.{stored, stored-is}

@@ -4,7 +4,6 @@ use mathlib.Core.Path.{_≡_, refl, sym, _∙_, ap}
 use mathlib.Core.Bool.{Bool, true, false}
 use mathlib.Core.List.{List}
 use Prim.Native.Nat.{ℕ, zero, suc}
-use native.Mathlib.Omega.{arith}
 use borrow.Author.Needs.{needs}
 use borrow.Author.Tests.{eq-eqb, ne-eqb}
 use lib.Dec.{eqb}
@@ -12,9 +11,7 @@ use lib.ListN.{length}
 use lib.IntN.{ℤ}
 use Rattle.integers.proofs.Laws.Bits.{stored-is}
 use Rattle.integers.proofs.Laws.Run.{tabulate-length}
-use Rattle.integers.proofs.Laws.Decide.{decides-false}
 use Rattle.problem.specs.WellFormed.{shape}
-use Rattle.problem.proofs.Laws.WellFormed.{by-shape}
 use Rattle.checker.specs.Refutation.{unless, refusal}
 use Rattle.checker.specs.Fact.{Fact}
 use Rattle.checker.specs.Answer.{interpolantRefusal, interpolantFor, answerOf, runOf}

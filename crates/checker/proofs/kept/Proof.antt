@@ -1,5 +1,5 @@
 -- `checker::kept` meets its contract. Assumes nothing.
-use mathlib.Core.Path.{_≡_, sym, _∙_, ap}
+use mathlib.Core.Path.{sym, _∙_, ap}
 use mathlib.Core.Bool.{Bool, cond}
 use lib.IntN.{pos}
 use Rattle.integers.proofs.Laws.Bits.{stored-is}

@@ -3,19 +3,17 @@
 use mathlib.Core.Path.{_≡_, refl, sym, _∙_, ap, subst}
 use mathlib.Core.Bool.{Bool, true, false}
 use Prim.Native.Nat.{ℕ, _≤_}
-use native.Mathlib.Omega.{arith}
 use borrow.Author.Tests.{not-true, not-false}
 use lib.ListN.{length}
 use lib.IntN.{ℤ, pos, natAbs, negℤ}
 use Rattle.integers.specs.Range.{isNegative}
-use Rattle.integers.specs.Run.{at, tabulate}
+use Rattle.integers.specs.Run.{tabulate}
 use Rattle.integers.proofs.Laws.Bits.{stored-is}
 use Rattle.integers.proofs.Laws.Run.{run-is, tabulate-length}
 use Rattle.checker.specs.Fact.{Fact}
 use Rattle.checker.specs.NormalForm.{firstNonzero, signBy}
 use Rattle.checker.specs.Answer.{answerOf}
 use Rattle.checker.specs.Code.{factOf, madePositive, largest}
-use Rattle.checker.specs.declared.Answer.{Answer}
 use Rattle.checker.specs.declared.Answer.the-variants.{Fact as Stated}
 use Rattle.checker.proofs.Laws.Facts.{run-small}
 use Rattle.checker.proofs.make_positive.Statement.{statement}

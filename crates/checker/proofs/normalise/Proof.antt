@@ -1,6 +1,6 @@
 -- `checker::normalise` meets its contract: FALSE where the common factor does not divide the constant, TRUE where it is 0, else
 -- the fact divided by it and finished. Assumes nothing.
-use mathlib.Core.Path.{_≡_, refl, sym, _∙_, ap, ap₂, subst}
+use mathlib.Core.Path.{_≡_, sym, _∙_, ap, ap₂, subst}
 use mathlib.Core.Bool.{Bool, true, false}
 use mathlib.Core.List.{List}
 use Prim.Native.Nat.{ℕ, _<_, _≤_}
@@ -10,7 +10,7 @@ use lib.ListN.{length}
 use lib.IntN.{ℤ, pos, natAbs}
 use lib.Signed.{quotZ, _≤ℤ_}
 use Rattle.integers.specs.Range.{isZero}
-use Rattle.integers.specs.Divisibility.{_∣ℤ_, divides}
+use Rattle.integers.specs.Divisibility.{divides}
 use Rattle.integers.specs.Gcd.{gcdFrom}
 use Rattle.integers.specs.Run.{at, tabulate}
 use Rattle.integers.proofs.Laws.Magnitude.{natAbs-pos}

@@ -1,10 +1,9 @@
 -- `checker::occurs` meets its contract: in the rows passed the coefficient is 0. Assumes nothing.
 use mathlib.Core.Path.{_≡_, sym, _∙_, ap}
-use mathlib.Core.Bool.{Bool, true, false, not}
+use mathlib.Core.Bool.{Bool, false, not}
 use Prim.Native.Nat.{ℕ, _+_, _*_, _-_, _≤_}
 use native.Mathlib.Nat.{mul-le-mul}
 use native.Mathlib.Omega.{arith}
-use lib.IntN.{ℤ}
 use Rattle.integers.specs.Range.{isZero}
 use Rattle.integers.specs.Below.{anyBelow}
 use Rattle.integers.proofs.Laws.Bits.{stored-is}

@@ -1,5 +1,4 @@
 -- `checker::product` meets its contract: the product of two numbers of at most a million fits. Assumes nothing.
-use Prim.Native.Nat.{_^_}
 use native.Mathlib.Omega.{arith}
 use lib.IntN.{ℤ, _*ℤ_}
 use mir.Syntax.{w64}

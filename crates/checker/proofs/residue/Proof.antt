@@ -1,9 +1,8 @@
 -- `checker::residue` meets its contract: the remainder, and m more where it is below 0. Assumes nothing.
-use mathlib.Core.Path.{_≡_, sym, _∙_, ap}
+use mathlib.Core.Path.{_≡_, sym, ap}
 use mathlib.Core.Bool.{Bool, cond}
-use Prim.Native.Nat.{ℕ, _<_, _^_}
 use native.Mathlib.Omega.{arith}
-use lib.IntN.{ℤ, natAbs, _+ℤ_}
+use lib.IntN.{ℤ, _+ℤ_}
 use lib.Signed.{remZ}
 use mir.Syntax.{w64}
 use mir.Val.{SFits}

@@ -1,5 +1,4 @@
 -- `checker::sum` meets its contract: the sum of two sums over rows fits. Assumes nothing.
-use Prim.Native.Nat.{_^_}
 use native.Mathlib.Omega.{arith}
 use lib.IntN.{ℤ, _+ℤ_}
 use mir.Syntax.{w64}

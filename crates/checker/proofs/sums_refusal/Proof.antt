@@ -3,7 +3,7 @@
 use mathlib.Core.Path.{_≡_, refl, sym, _∙_, ap, ap₂}
 use mathlib.Core.Bool.{Bool, true, false, not, _&&_}
 use mathlib.Core.List.{List}
-use Prim.Native.Nat.{ℕ, _+_, _≤_}
+use Prim.Native.Nat.{ℕ, _+_}
 use native.Mathlib.Omega.{arith}
 use borrow.Author.Needs.{needs}
 use borrow.Author.Tests.{not-true, not-false}
@@ -13,7 +13,7 @@ use Rattle.integers.specs.Below.{allBelow}
 use Rattle.integers.proofs.Laws.Bits.{stored-is}
 use Rattle.problem.specs.Rows.{rowsOf}
 use Rattle.checker.specs.Refutation.{columnSum, constantSum, numerator, unless, sumsRefusal}
-use Rattle.checker.specs.Code.{numbers, weights, Weighable}
+use Rattle.checker.specs.Code.{numbers, weights}
 use Rattle.checker.proofs.Laws.Sums.{summable-a, summable-b, constant-total, moduli-all}
 use Rattle.checker.proofs.sums_refusal.Statement.{statement}
 use Rattle.checker.proofs.sums_refusal.Tie as tie

@@ -2,7 +2,7 @@
 use mathlib.Core.Path.{_≡_, refl, sym, _∙_, ap, ap₂}
 use mathlib.Core.Bool.{Bool, true, false}
 use mathlib.Core.List.{List}
-use Prim.Native.Nat.{ℕ, _+_}
+use Prim.Native.Nat.{ℕ}
 use native.Mathlib.Omega.{arith}
 use borrow.Author.Needs.{needs}
 use borrow.Author.Tests.{not-true, not-false}
@@ -10,7 +10,6 @@ use lib.IntN.{ℤ}
 use Rattle.integers.proofs.Laws.Bits.{stored-is}
 use Rattle.problem.specs.Rows.{Rows, rowsOf}
 use Rattle.checker.specs.Refutation.{numerator, isVector, areNumerators, unless, sumsRefusal, vectorRefusal}
-use Rattle.checker.specs.Code.{Weighable}
 use Rattle.checker.proofs.Laws.Refusal.{by-numerators}
 use Rattle.checker.proofs.vector_refusal.Statement.{statement}
 use Rattle.checker.proofs.vector_refusal.Tie as tie

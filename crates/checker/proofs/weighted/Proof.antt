@@ -1,10 +1,10 @@
 -- `checker::weighted` meets its contract: its two places are small numbers, and their contents are in range. Assumes nothing.
 use mathlib.Core.Path.{_≡_, sym, _∙_, ap₂, subst}
-use Prim.Native.Nat.{ℕ, _+_, _*_, _≤_}
+use Prim.Native.Nat.{_+_, _*_, _≤_}
 use native.Mathlib.Nat.{mul-le-mul}
 use native.Mathlib.Omega.{arith}
 use borrow.Author.Needs.{needs}
-use lib.IntN.{ℤ, natAbs, _*ℤ_}
+use lib.IntN.{natAbs, _*ℤ_}
 use Rattle.integers.proofs.Laws.Bits.{stored, stored-is}
 use Rattle.problem.specs.WellFormed.{million}
 use Rattle.checker.specs.Code.{numbers, weights}
