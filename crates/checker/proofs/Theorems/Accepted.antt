@@ -28,7 +28,8 @@ module _ (n ma mb : ℕ) (a b : List ℤ) (q : ℤ) (p : List ℤ) where
   pub interpolant-refused-is : (long k : ℕ) → (interpolantRefusal n ma mb a b q p long ≡ k → InterpolantSays n ma mb a b q p long k) × (InterpolantSays n ma mb a b q p long k → interpolantRefusal n ma mb a b q p long ≡ k)
   interpolant-refused-is long k = (
     (λ e. subst (λ (r : ℕ). InterpolantSays n ma mb a b q p long r) e (interpolant-says n ma mb a b q p long)),
-    interpolant-is n ma mb a b q p long)
+    interpolant-is n ma mb a b q p long,
+  )
 
 abbrev numberOf : Verdict → ℕ
 numberOf Passed = 0

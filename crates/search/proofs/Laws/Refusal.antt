@@ -1,0 +1,34 @@
+-- What the refusal before any step says.
+--
+--     none-well-formed    there is none: the problem is well formed
+--     left-refused        a refusal leaves a run as it was
+--     written-none        where there is none, the test alone decides whether the run is written
+--
+-- Assumes nothing.
+use mathlib.Core.Path.{_≡_, refl}
+use mathlib.Core.Bool.{Bool, true, false, cond}
+use mathlib.Core.List.{List}
+use Prim.Native.Nat.{ℕ, zero, suc}
+use native.Mathlib.Omega.{arith}
+use lib.IntN.{ℤ}
+use Rattle.problem.specs.WellFormed.{WellFormed, shape, wellFormed}
+use Rattle.problem.proofs.Laws.WellFormed.{by-well-formed}
+use Rattle.search.specs.Answer.{refusalOf, writtenBy, writtenIf}
+
+pub none-well-formed : (n ma mb : ℕ) (a b : List ℤ) (fit : Bool) → refusalOf n ma mb a b fit ≡ 0 → WellFormed n ma mb a b
+unfolding refusalOf
+none-well-formed n ma mb a b fit e = by-well-formed n ma mb a b .yes (go (shape n ma mb a b) fit (wellFormed n ma mb a b) e)
+  where
+    go : (s t w : Bool) → _≡_ {A = ℕ} (cond s (cond t (cond w 0 3) 2) 1) 0 → w ≡ true
+    go s t true h = refl
+    go true true false h = absurd (omega arith)
+    go true false false h = absurd (omega arith)
+    go false t false h = absurd (omega arith)
+
+pub left-refused : (k : ℕ) (t : Bool) (numbers entry : List ℤ) → (k ≡ 0 → ⊥) → entry ≡ writtenIf k t numbers entry
+left-refused zero t numbers entry h = absurd (h refl)
+left-refused (suc k) t numbers entry h = refl
+
+pub written-none : (k : ℕ) (t : Bool) (numbers entry : List ℤ) → k ≡ 0 → writtenBy t numbers entry ≡ writtenIf k t numbers entry
+written-none zero t numbers entry e = refl
+written-none (suc k) t numbers entry e = absurd (omega arith)

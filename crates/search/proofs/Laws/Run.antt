@@ -1,0 +1,87 @@
+-- Laws of `after b s`, the state after b steps from s or after the last.
+--
+--     after-none      no step: s itself
+--     after-more      unfinished after b steps: one more step gives the state after b + 1
+--     after-stops     finished after b steps: the same state after any more
+--     after-count     unfinished after b steps: they are b, and counted so
+--     after-sound     unfinished after b steps from a sound state: still sound
+--
+-- Assumes nothing.
+use mathlib.Core.Path.{_≡_, refl, sym, _∙_, ap, subst, subst⁻¹}
+use mathlib.Core.Bool.{Bool, true, false, false≢true, true≢false}
+use Prim.Native.Nat.{ℕ, zero, suc, _+_, _-_, _≤_}
+use native.Mathlib.Numerals.{add-one}
+use native.Mathlib.Omega.{arith}
+use Rattle.search.specs.State.{State, Outcome, Unfinished, TooLarge, Refuted, Solved}
+use Rattle.search.specs.Step.{stepOf}
+use Rattle.search.specs.Run.{isUnfinished, nextBy, after}
+use Rattle.search.specs.Code.{Sound}
+use Rattle.search.proofs.Laws.Sound.{step-counts, step-sound}
+
+next-goes : (o : Outcome) (s : State) → isUnfinished o ≡ true → nextBy o s ≡ stepOf s
+unfolding nextBy
+next-goes Unfinished s u = refl
+next-goes TooLarge s u = absurd (false≢true u)
+next-goes (Refuted q) s u = absurd (false≢true u)
+next-goes Solved s u = absurd (false≢true u)
+
+next-stops : (o : Outcome) (s : State) → isUnfinished o ≡ false → nextBy o s ≡ s
+unfolding nextBy
+next-stops Unfinished s u = absurd (true≢false u)
+next-stops TooLarge s u = refl
+next-stops (Refuted q) s u = refl
+next-stops Solved s u = refl
+
+module _ (s : State) where
+  abbrev goes : ℕ → Bool
+  goes b = isUnfinished (after b s .outcome)
+
+  pub after-none : s ≡ after 0 s
+  unfolding after
+  after-none = refl
+
+  goes-on : (b : ℕ) → goes b ≡ true → after (suc b) s ≡ stepOf (after b s)
+  unfolding after
+  goes-on b u = next-goes (after b s .outcome) (after b s) u
+
+  stops : (b : ℕ) → goes b ≡ false → after (suc b) s ≡ after b s
+  unfolding after
+  stops b u = next-stops (after b s .outcome) (after b s) u
+
+  pub after-more : (b : ℕ) → goes b ≡ true → stepOf (after b s) ≡ after (b + 1) s
+  after-more b u = sym (ap (λ (k : ℕ). after k s) (add-one b) ∙ goes-on b u)
+
+  stops-for : (b d c : ℕ) → c ≡ d + b → goes b ≡ false → after c s ≡ after b s
+  stops-for b zero c n u = let e : c ≡ b = omega arith in ap (λ (k : ℕ). after k s) e
+  stops-for b (suc d) c n u =
+      let e = stops-for b d (d + b) refl u in
+      let m : c ≡ suc (d + b) = omega arith in
+      ap (λ (k : ℕ). after k s) m ∙ stops (d + b) (ap (λ (t : State). isUnfinished (t .outcome)) e ∙ u) ∙ e
+
+  pub after-stops : (b c : ℕ) → b ≤ c → goes b ≡ false → after c s ≡ after b s
+  after-stops b c l u = stops-for b (c - b) c (omega arith) u
+
+  -- what is unfinished after b + 1 steps was so after b
+  before : (b : ℕ) → goes (suc b) ≡ true → goes b ≡ true
+  before b u = go (goes b) refl
+    where
+      go : (t : Bool) → goes b ≡ t → t ≡ true
+      go true e = refl
+      go false e = sym e ∙ ap (λ (t : State). isUnfinished (t .outcome)) (sym (stops b e)) ∙ u
+
+  pub after-count : (b : ℕ) → goes b ≡ true → after b s .steps ≡ s .steps + b
+  unfolding after
+  after-count zero u = omega arith
+  after-count (suc b) u =
+      let g = before b u in
+      let e = after-count b g in
+      let f = ap (λ (t : State). t .steps) (goes-on b g) ∙ step-counts (after b s) in
+      omega arith
+
+  pub after-sound : Sound s → (b : ℕ) → goes b ≡ true → Sound (after b s)
+  unfolding after
+  after-sound h zero u = h
+  after-sound h (suc b) u =
+      let g = before b u in
+      let e = goes-on b g in
+      subst⁻¹ Sound e (step-sound (after b s) (after-sound h b g) (sym (ap (λ (t : State). isUnfinished (t .outcome)) e) ∙ u))
