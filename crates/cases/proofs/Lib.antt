@@ -1,1 +1,2 @@
 pub mod CheckedByHand
+pub mod SearchedByHand

@@ -1,5 +1,6 @@
 // Calls the checker on the examples of the article, on the paper's cases 5 to 7, at the ends of the ranges, and for each
-// refusal. A line has the verdict of `check` and the answer of `interpolant`.
+// refusal. A line has the verdict of `check` and the answer of `interpolant`. The last lines are of searches, the paper's cases 8
+// and 9.
 //
 // The variables x, y, z are x1, x2, x3. A row is its coefficients, its constant and its modulus. A comment above a call derives
 // its answer: S by variable over A's rows, then K and M, as the paper names them, and g, by which the normal form divides.
@@ -586,9 +587,90 @@ fn refusals() {
     order_of_vectors();
 }
 
+// ---- The search
+
+fn ended(outcome: search::Outcome) {
+    match outcome {
+        search::Outcome::Unfinished => {
+            io::write_all(1, b"unfinished");
+        }
+        search::Outcome::TooLarge => {
+            io::write_all(1, b"too large");
+        }
+        search::Outcome::Refuted(q) => {
+            io::write_all(1, b"refuted by q ");
+            signed(q);
+        }
+        search::Outcome::Solved => {
+            io::write_all(1, b"solved");
+        }
+    }
+}
+
+// A line with the outcome, the count and what both runs then hold.
+fn searched(
+    name: &[u8],
+    n: usize,
+    ma: usize,
+    mb: usize,
+    a: &[i64],
+    b: &[i64],
+    budget: u32,
+    vector: &mut [i64],
+    point: &mut [i64],
+) {
+    io::write_all(1, name);
+    io::write_all(1, b": ");
+    let given = search::search(n, ma, mb, a, b, budget, vector, point);
+    match given {
+        search::Reply::Refused(number) => {
+            refused(number);
+        }
+        search::Reply::Answered(reply) => {
+            let outcome = reply.outcome;
+            ended(outcome);
+            io::write_all(1, b" in ");
+            io::print_decimal(1, reply.steps as u64);
+        }
+    }
+    io::write_all(1, b"; vector");
+    numbers(vector);
+    io::write_all(1, b"; point");
+    numbers(point);
+    io::write_all(1, b"\n");
+}
+
+// The paper's case 8: case 2 is refuted in 4 steps, by q 2 and p -1, 1.
+fn case_8(name: &[u8], budget: u32) {
+    let a = [1, -2, 0, 0, 0];
+    let b = [1, 0, -2, 1, 0];
+    let mut vector = [7; 2];
+    let mut point = [7; 3];
+    searched(name, 3, 1, 1, &a, &b, budget, &mut vector, &mut point);
+}
+
+// The paper's case 9: x = 1000000 and y = 1000000 x, whose point does not fit.
+fn case_9(name: &[u8], budget: u32) {
+    let a = [1, 0, 1000000, 0, -1000000, 1, 0, 0];
+    let b: [i64; 0] = [];
+    let mut vector = [7; 2];
+    let mut point = [7; 2];
+    searched(name, 2, 2, 0, &a, &b, budget, &mut vector, &mut point);
+}
+
+fn searches() {
+    case_8(b"case 8, budget 0", 0);
+    case_8(b"case 8, budget 3", 3);
+    case_8(b"case 8, budget 4", 4);
+    case_8(b"case 8, any budget", 4294967295);
+    case_9(b"case 9, budget 1", 1);
+    case_9(b"case 9, budget 2", 2);
+}
+
 fn main() {
     examples();
     facts();
     shapes();
     refusals();
+    searches();
 }

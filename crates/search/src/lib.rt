@@ -32,8 +32,8 @@ pub enum Outcome {
 
 // The count of steps beside the outcome.
 pub struct Answer {
-    steps: u32,
-    outcome: Outcome,
+    pub steps: u32,
+    pub outcome: Outcome,
 }
 
 // What a search answers, or the number of a refusal before its first step.
@@ -49,7 +49,7 @@ pub enum TableReply {
 }
 
 // What of a problem stays through its search: variables, rows, columns in use, and the rows' constants.
-pub struct Given {
+struct Given {
     n: usize,
     m: usize,
     width: usize,
@@ -57,7 +57,7 @@ pub struct Given {
 }
 
 // A search after some steps.
-pub struct State {
+struct State {
     given: Given,
     cells: [i64; 864],
     row: usize,
@@ -70,7 +70,7 @@ pub struct State {
 }
 
 // Numerators and denominator on the way, and whether all are in range.
-pub struct Vector {
+struct Vector {
     p: [i64; 12],
     q: i64,
     ok: bool,
