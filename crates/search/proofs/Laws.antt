@@ -7,6 +7,7 @@
 --     Start     the state that a search starts from, and that it is sound
 --     Refusal   what the refusal before any step says
 --     Sums      the sums that the code takes stay far below 2^63
+--     Close     what Close computes, from the table before any column is swapped
 --     Vector    what the code computes of the vector is what the definitions say; what is in order is in range
 pub mod Table
 pub mod Scan
@@ -15,4 +16,5 @@ pub mod Run
 pub mod Start
 pub mod Refusal
 pub mod Sums
+pub mod Close
 pub mod Vector

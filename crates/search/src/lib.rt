@@ -14,13 +14,13 @@ ghost use Rattle.integers.specs.Below.{allBelow};
 ghost use Rattle.integers.specs.Run.{at, tabulate};
 ghost use Rattle.problem.specs.Rows.{rowsOf};
 ghost use Rattle.problem.specs.WellFormed.{million, WellFormed};
-ghost use Rattle.search.specs.State.{ownColumn, upperCell, startCell, startTable, start};
+ghost use Rattle.search.specs.State.{ownColumn, upperCell, startTable, start};
 ghost use Rattle.search.specs.Table.{bound, cell, Bounded, lessTimes, subtractColumn, subtractionFits, swapColumns, negateColumn};
 ghost use Rattle.search.specs.Vector.{checked, unitVector, columnSum, backOne, backFrom, vectorOf};
-ghost use Rattle.search.specs.Step.{least, other, quotient, tooLarge, reduceOf, closeTable, passed, placed, solveBy, closed, refuteBy, closeOf, stepOf};
+ghost use Rattle.search.specs.Step.{least, other, quotient, tooLarge, closeTable, residualOf, passed, placed, solveBy, closed, refuteBy, closeBy, closeOf, stepOf};
 ghost use Rattle.search.specs.Run.{isUnfinished, after};
 ghost use Rattle.search.specs.Answer.{refusalOf, isRefuted, isSolved, writtenBy, searched, searchReply, searchVector, searchPoint, tableReply, tableRun};
-ghost use Rattle.search.specs.Code.{lastCount, Sound, Reducible, Backable, Backs, Solvable, Vectorable, Closable};
+ghost use Rattle.search.specs.Code.{lastCount, enteredRow, enteredDiagonal, Sound, Backable, Backs, Solvable, Vectorable, Closable};
 
 // How a search ended, or that it did not.
 pub enum Outcome {
@@ -236,7 +236,7 @@ impl State {
     }
 
     // One step takes the state and hands the next one back.
-    fn step(self) -> State
+    fn step(mut self) -> State
         requires { ⌜ Sound self × (self .steps < lastCount) ⌝ }
         ensures { λ r. ⌜ r ≡ stepOf self ⌝ }
     {
@@ -246,20 +246,10 @@ impl State {
         let hi = given.width;
         let first = least(&self.cells, row, lo, hi);
         let second = other(&self.cells, row, first, lo, hi);
-        if second != first {
-            return self.reduce(first, second);
+        if second == first {
+            return self.close(first);
         }
-        self.close(first)
-    }
-
-    fn reduce(mut self, first: usize, second: usize) -> State
-        requires { ⌜ Reducible self first second ⌝ }
-        ensures { λ r. ⌜ r ≡ reduceOf self first second ⌝ }
-    {
-        let row = self.row;
-        let y = get(&self.cells, row, second);
-        let x = get(&self.cells, row, first);
-        let q = quotient(y, x);
+        let q = quotient(get(&self.cells, row, second), get(&self.cells, row, first));
         if subtraction_fits(&self.cells, first, second, q) {
             subtract_column(&mut self.cells, first, second, q);
             self.steps += 1;
@@ -268,7 +258,8 @@ impl State {
         self.too_large()
     }
 
-    fn close(self, j: usize) -> State
+    // Close. The entry that becomes the pivot, and the residual, are known before any column is swapped.
+    fn close(mut self, j: usize) -> State
         requires { ⌜ Closable self j ⌝ }
         ensures { λ r. ⌜ r ≡ closeOf self j ⌝ }
     {
@@ -277,18 +268,54 @@ impl State {
         let given = self.given;
         let consts = given.consts;
         let zs = self.zs;
-        let mut t = self.cells;
-        close_table(&mut t, row, j, count);
-        let e = get(&t, row, count);
-        let r = less(consts[row], row_dot(&t, &zs, row, count));
+        let e = positive(get(&self.cells, row, j));
+        let r = less(consts[row], row_dot(&self.cells, &zs, row, count));
         if !integers::divides(e, r) {
-            let v = self.vector(t, e);
-            let ok = v.ok;
-            if ok {
-                return self.refuted(t, v);
-            }
-            return self.too_large();
+            return self.refute(j, e);
         }
+        if row + 1 == given.m {
+            return self.close_last(j, e, r);
+        }
+        if integers::is_zero(e) {
+            self.row += 1;
+            self.steps += 1;
+            return self;
+        }
+        let z = divided(r, e);
+        if integers::within(268435456, z) {
+            close_table(&mut self.cells, row, j, count);
+            self.pivots[count] = row;
+            self.zs[count] = z;
+            self.row += 1;
+            self.count += 1;
+            self.steps += 1;
+            return self;
+        }
+        self.too_large()
+    }
+
+    // The current row refutes, with pivot e or with none.
+    fn refute(self, j: usize, e: i64) -> State
+        requires { ⌜ Closable self j ⌝ }
+        ensures { λ r. ⌜ r ≡ closeBy false self (closeTable (self .cells) (self .row) j (self .count)) e ⌝ }
+    {
+        let mut t = self.cells;
+        close_table(&mut t, self.row, j, self.count);
+        let v = self.vector(t, e);
+        let ok = v.ok;
+        if ok {
+            return self.refuted(t, v);
+        }
+        self.too_large()
+    }
+
+    // The last row closes, with pivot e that divides the residual r, or with neither.
+    fn close_last(self, j: usize, e: i64, r: i64) -> State
+        requires { ⌜ Closable self j × (r ≡ residualOf self (closeTable (self .cells) (self .row) j (self .count))) ⌝ }
+        ensures { λ s. ⌜ s ≡ closeBy true self (closeTable (self .cells) (self .row) j (self .count)) e ⌝ }
+    {
+        let mut t = self.cells;
+        close_table(&mut t, self.row, j, self.count);
         if integers::is_zero(e) {
             let next = self.passed(t);
             return self.closed(next);
@@ -838,6 +865,14 @@ fn times(x: i64, y: i64) -> i64
     x * y
 }
 
+// The magnitude.
+fn positive(x: i64) -> i64
+    requires { ⌜ natAbs x ≤ bound ⌝ }
+    ensures { λ r. ⌜ r ≡ pos (natAbs x) ⌝ }
+{
+    integers::magnitude(x) as i64
+}
+
 fn minus(x: i64) -> i64
     requires { ⌜ natAbs x < 2 ^ 62 ⌝ }
     ensures { λ r. ⌜ r ≡ negℤ x ⌝ }
@@ -879,41 +914,52 @@ fn start_table(n: usize, ma: usize, mb: usize, a: &[i64], b: &[i64]) -> [i64; 86
     ensures { λ r. ⌜ r ≡ startTable n (rowsOf n ma mb (now (a .entry)) (now (b .entry))) ⌝ }
 {
     let mut out: [i64; 864] = [0; 864];
-    let mut k: usize = 0;
-    while k < 864 {
-        out[k] = start_cell(n, ma, mb, a, b, k / 24, k % 24);
-        k += 1;
+    let m = ma + mb;
+    let mut i: usize = 0;
+    while i < m {
+        enter_row(&mut out, n, ma, a, b, i);
+        i += 1;
     }
+    enter_diagonal(&mut out, own_column(n, ma, a, b, m));
     out
 }
 
-// A row's cell, or one of the diagonal, or 0.
-fn start_cell(n: usize, ma: usize, mb: usize, a: &[i64], b: &[i64], i: usize, j: usize) -> i64
-    requires { ⌜ (n ≤ 12) × (ma + mb ≤ 12) × (j < 24) ⌝ }
-    ensures { λ r. ⌜ r ≡ startCell n (rowsOf n ma mb (now (a .entry)) (now (b .entry))) i j ⌝ }
+// Enters the numbers of a row. The number of B's rows does not matter here.
+fn enter_row(cells: &mut [i64; 864], n: usize, ma: usize, a: &[i64], b: &[i64], i: usize)
+    requires { ⌜ (n ≤ 12) × (i < 12) ⌝ }
+    ensures { λ r. ⌜ now (cells .exit) ≡ enteredRow n (rowsOf n ma 0 (now (a .entry)) (now (b .entry))) i (now (cells .entry)) ⌝ }
 {
-    let m = ma + mb;
-    if i < m {
-        return upper_cell(n, ma, a, b, i, j);
+    let own = own_column(n, ma, a, b, i);
+    let mut j: usize = 0;
+    while j < 24 {
+        put(cells, i, j, upper_cell(n, ma, a, b, i, j, own));
+        j += 1;
     }
-    if i != 12 + j {
-        return 0;
-    }
-    if j < own_column(n, ma, a, b, m) { 1 } else { 0 }
 }
 
-// A coefficient, or the modulus in its own column. The number of B's rows does not matter here.
-fn upper_cell(n: usize, ma: usize, a: &[i64], b: &[i64], i: usize, j: usize) -> i64
-    requires { ⌜ (n ≤ 12) × (i ≤ 12) × (j < 24) ⌝ }
+// A coefficient, or the modulus in the row's own column.
+fn upper_cell(n: usize, ma: usize, a: &[i64], b: &[i64], i: usize, j: usize, own: usize) -> i64
+    requires { ⌜ (n ≤ 12) × (i ≤ 12) × (j < 24) × (own ≡ ownColumn n (rowsOf n ma 0 (now a) (now b)) i) ⌝ }
     ensures { λ r. ⌜ r ≡ upperCell n (rowsOf n ma 0 (now (a .entry)) (now (b .entry))) i j ⌝ }
 {
     if j < n {
         return number(n, ma, a, b, i, j);
     }
-    if j != own_column(n, ma, a, b, i) {
+    if j != own {
         return 0;
     }
     number(n, ma, a, b, i, n + 1)
+}
+
+fn enter_diagonal(cells: &mut [i64; 864], width: usize)
+    requires { ⌜ width ≤ 24 ⌝ }
+    ensures { λ r. ⌜ now (cells .exit) ≡ enteredDiagonal width (now (cells .entry)) ⌝ }
+{
+    let mut j: usize = 0;
+    while j < width {
+        put(cells, 12 + j, j, 1);
+        j += 1;
+    }
 }
 
 // The column after the variables and the congruences before row i. The number of B's rows does not matter here.

@@ -140,10 +140,10 @@ module _ (t : List ℤ) (i j r : ℕ) (j-in : j < 24) (r-in : r < 24) where
       go true = refl
       go false = turn (isNegative (cell t i j))
 
-  -- a column that is not 0 in the row becomes the pivot, above 0; else the table stays
-  pub close-pivot : i < 36 → i * 24 + r < length t → (cell t i j ≡ pos 0 → j ≡ r) → isZero (cell (closeTable t i j r) i r) ≡ false → Positive (cell (closeTable t i j r) i r)
+  -- the one column that is not 0 in the row becomes the pivot, above 0; else the table stays
+  pub close-entry : i < 36 → i * 24 + r < length t → (cell t i j ≡ pos 0 → j ≡ r) → cell (closeTable t i j r) i r ≡ pos (natAbs (cell t i j))
   unfolding swapBy negateBy
-  close-pivot i-in inside alone = go (isZero (cell t i j)) refl
+  close-entry i-in inside alone = go (isZero (cell t i j)) refl
     where
       x : ℤ
       x = cell t i j
@@ -151,20 +151,20 @@ module _ (t : List ℤ) (i j r : ℕ) (j-in : j < 24) (r-in : r < 24) where
       moved : cell (swapColumns t j r) i r ≡ x
       moved = swap-second j r j-in r-in t i i-in inside
 
-      above : isZero x ≡ false → natAbs x ≡ 0 → ⊥
-      above z e = eqb-false (natAbs x) 0 z e
+      turn : (n : Bool) → isNegative x ≡ n → cell (negateBy n (swapColumns t j r) r) i r ≡ pos (natAbs x)
+      turn true n = negate-cell r r-in (swapColumns t j r) i i-in (subst⁻¹ (λ (k : ℕ). i * 24 + r < k) (swap-length j r j-in r-in t) inside) ∙ ap negℤ moved ∙ negative-abs x n
+      turn false n = moved ∙ nonnegative-abs x n
 
-      turn : isZero x ≡ false → (n : Bool) → isNegative x ≡ n → Positive (cell (negateBy n (swapColumns t j r) r) i r)
-      turn z true n =
-          let e = negate-cell r r-in (swapColumns t j r) i i-in (subst⁻¹ (λ (k : ℕ). i * 24 + r < k) (swap-length j r j-in r-in t) inside) ∙ ap negℤ moved ∙ negative-abs x n in
-          positive-of _ (natAbs x) e (λ h. above z (ap natAbs (sym e ∙ h)))
-      turn z false n =
-          let e = moved ∙ nonnegative-abs x n in
-          positive-of _ (natAbs x) e (λ h. above z (ap natAbs (sym e ∙ h)))
+      go : (z : Bool) → isZero x ≡ z → cell (swapBy z t i j r) i r ≡ pos (natAbs x)
+      go true z =
+          let none = eqb-true (natAbs x) 0 z in
+          let e = natAbs-zero x none in
+          ap (cell t i) (sym (alone e)) ∙ e ∙ ap pos (sym none)
+      go false z = turn (isNegative x) refl
 
-      go : (z : Bool) → isZero x ≡ z → isZero (cell (swapBy z t i j r) i r) ≡ false → Positive (cell (swapBy z t i j r) i r)
-      go true z n = let e = natAbs-zero x (eqb-true (natAbs x) 0 z) in absurd (false≢true (sym n ∙ ap (λ (k : ℕ). isZero (cell t i k)) (sym (alone e)) ∙ z))
-      go false z n = turn z (isNegative x) refl
+  pub close-pivot : i < 36 → i * 24 + r < length t → (cell t i j ≡ pos 0 → j ≡ r) → isZero (cell (closeTable t i j r) i r) ≡ false → Positive (cell (closeTable t i j r) i r)
+  close-pivot i-in inside alone some =
+      positive-of _ (natAbs (cell t i j)) (close-entry i-in inside alone) (λ e. eqb-false (natAbs (cell (closeTable t i j r) i r)) 0 some (ap natAbs e))
 
 -- The columns ----------------------------------------------------------------------------------------------------------
 
@@ -238,6 +238,9 @@ module _ (s : State) (h : Sound s) where
     row-in = row-low;
     count-in = count-low;
     column-in = first-in;
+    column-low = first-is .low;
+    alone = first-zero;
+    cells-long = h .cells-long;
     few-n = h .few-n;
     bounded = h .bounded;
     zs-bounded = h .zs-bounded;

@@ -6,31 +6,37 @@
 --                    upper-any          a row's cell does not hang on the number of B's rows
 --     Cells          upper-coef upper-modulus upper-zero             a row's cell, by its column
 --                    start-row start-one start-past start-off        the cell of a row, of the diagonal, past its end, off it
+--     Entered        from-none from-more         places filled from one on: none, and one more
+--                    from-filled                 after those before them
+--                    place-is                    a cell of the upper table, by its place
+--                    diagonal-none diagonal-more the diagonal: no column, and one more
+--                    start-entered               rows and diagonal entered into a table of zeros are the start's table
 --     Sound          rows-in            the rows of a well-formed problem are in their ranges
 --                    start-small        every cell is at most a million in magnitude
 --                    start-sound        the start of a well-formed problem is sound
 --
 -- Assumes nothing.
-use mathlib.Core.Path.{_≡_, refl, _∙_, ap, ap₂, subst⁻¹}
+use mathlib.Core.Path.{_≡_, refl, sym, _∙_, ap, ap₂, subst⁻¹}
 use mathlib.Core.Bool.{Bool, true, false, cond, _&&_}
 use mathlib.Core.List.{List}
 use Prim.Native.Nat.{ℕ, zero, suc, _+_, _*_, _-_, _<_, _≤_, _/_, _%_}
 use native.Mathlib.Numerals.{add-one}
 use native.Mathlib.Omega.{arith}
-use native.Mathlib.Decide.{decLt}
+use native.Mathlib.Decide.{ℕ-discrete, decLt}
 use borrow.Author.Tests.{lt-ltb, le-ltb, eq-eqb, ne-eqb}
 use lib.Dec.{eqb, ltb}
-use lib.ListN.{length, length-replicate}
+use lib.ListN.{set, length, length-set, replicate, length-replicate, getD-replicate}
+use lib.Seq.{getD-set-same, getD-set-other}
 use lib.IntN.{ℤ, pos, natAbs}
 use lib.Signed.{_≤ℤ_}
 use Rattle.integers.specs.Range.{isZero}
 use Rattle.integers.specs.Run.{at, tabulate}
-use Rattle.integers.proofs.Laws.Run.{at-end, tabulate-length, tabulate-at, tabulate-zeros}
+use Rattle.integers.proofs.Laws.Run.{at-end, tabulate-length, tabulate-at, tabulate-is, tabulate-zeros, filled, filled-length, filled-later, filled-at}
 use Rattle.problem.specs.Rows.{Rows, rowsOf}
 use Rattle.problem.specs.WellFormed.{million, RowInRange, WellFormed}
 use Rattle.search.specs.Table.{bound}
 use Rattle.search.specs.State.{congruences, ownColumn, widthOf, upperCell, startCell, startTable, givenOf, start}
-use Rattle.search.specs.Code.{Sound}
+use Rattle.search.specs.Code.{filledFrom, upperPlace, enteredDiagonal, Sound}
 
 -- Congruences ----------------------------------------------------------------------------------------------------------
 
@@ -98,6 +104,89 @@ module _ (n : ℕ) (R : Rows) (i j : ℕ) where
 
   pub start-off : R .m ≤ i → (i ≡ 12 + j → ⊥) → startCell n R i j ≡ pos 0
   start-off h e = start-by (le-ltb i (R .m) h) (ne-eqb i (12 + j) e) refl
+
+-- Entered --------------------------------------------------------------------------------------------------------------
+
+module _ (from : ℕ) (f : ℕ → ℤ) (t : List ℤ) where
+  pub from-none : t ≡ filledFrom from 0 f t
+  unfolding filledFrom
+  from-none = refl
+
+  pub from-more : (k : ℕ) → set (filledFrom from k f t) (from + k) (f (from + k)) ≡ filledFrom from (k + 1) f t
+  unfolding filledFrom
+  from-more k = rw add-one
+
+  pub from-filled : (k : ℕ) → filledFrom from k f (filled from f t) ≡ filled (from + k) f t
+  unfolding filledFrom filled
+  from-filled zero = let e : from ≡ from + 0 = omega arith in ap (λ (n : ℕ). filled n f t) e
+  from-filled (suc k) =
+      let e : suc (from + k) ≡ from + suc k = omega arith in
+      ap (λ (run : List ℤ). set run (from + k) (f (from + k))) (from-filled k) ∙ ap (λ (n : ℕ). filled n f t) e
+
+pub place-is : (n : ℕ) (R : Rows) (i j : ℕ) → j < 24 → upperCell n R i j ≡ upperPlace n R (i * 24 + j)
+place-is n R i j h =
+    let e : i ≡ (i * 24 + j) / 24 = omega arith in
+    let f : j ≡ (i * 24 + j) % 24 = omega arith in
+    ap₂ (upperCell n R) e f
+
+module _ (t : List ℤ) where
+  pub diagonal-none : t ≡ enteredDiagonal 0 t
+  unfolding enteredDiagonal
+  diagonal-none = refl
+
+  pub diagonal-more : (j : ℕ) → set (enteredDiagonal j t) ((12 + j) * 24 + j) (pos 1) ≡ enteredDiagonal (j + 1) t
+  unfolding enteredDiagonal
+  diagonal-more j = rw add-one
+
+  diagonal-length : (w : ℕ) → length (enteredDiagonal w t) ≡ length t
+  unfolding enteredDiagonal
+  diagonal-length zero = refl
+  diagonal-length (suc j) = length-set (enteredDiagonal j t) ((12 + j) * 24 + j) (pos 1) ∙ diagonal-length j
+
+  diagonal-off : (w k : ℕ) → ((j : ℕ) → j < w → k ≡ (12 + j) * 24 + j → ⊥) → at (enteredDiagonal w t) k ≡ at t k
+  unfolding enteredDiagonal
+  diagonal-off zero k h = refl
+  diagonal-off (suc j) k h = getD-set-other (enteredDiagonal j t) ((12 + j) * 24 + j) k (pos 1) (pos 0) (h j (omega arith)) ∙ diagonal-off j k (λ i l. h i (omega arith))
+
+  diagonal-on : (w j : ℕ) → j < w → w ≤ 24 → length t ≡ 864 → at (enteredDiagonal w t) ((12 + j) * 24 + j) ≡ pos 1
+  unfolding enteredDiagonal
+  diagonal-on zero j h wide long = absurd (omega arith)
+  diagonal-on (suc i) j h wide long = let l = diagonal-length i in elim (ℕ-discrete j i) [
+    | yes e ↦ ap (λ (k : ℕ). at (set (enteredDiagonal i t) ((12 + i) * 24 + i) (pos 1)) ((12 + k) * 24 + k)) e ∙ getD-set-same (enteredDiagonal i t) ((12 + i) * 24 + i) (pos 1) (pos 0) (omega arith)
+    | no e ↦ getD-set-other (enteredDiagonal i t) ((12 + i) * 24 + i) ((12 + j) * 24 + j) (pos 1) (pos 0) (omega arith) ∙ diagonal-on i j (omega arith) (omega arith) long
+  ]
+
+module _ (n : ℕ) (R : Rows) (few : R .m ≤ 12) (wide : widthOf n R ≤ 24) where
+  abbrev zeros : List ℤ
+  zeros = replicate 864 (pos 0)
+
+  abbrev rows : List ℤ
+  rows = filled (R .m * 24) (upperPlace n R) zeros
+
+  long : length rows ≡ 864
+  long = filled-length (R .m * 24) (upperPlace n R) zeros ∙ length-replicate 864 (pos 0)
+
+  unentered : (k : ℕ) → R .m ≤ k / 24 → k < 864 → at rows k ≡ pos 0
+  unentered k h l = filled-later (R .m * 24) (upperPlace n R) zeros k (omega arith) ∙ getD-replicate 864 k (pos 0) (pos 0) l
+
+  entered-at : (k : ℕ) → k < 864 → at (enteredDiagonal (widthOf n R) rows) k ≡ startCell n R (k / 24) (k % 24)
+  entered-at k l = elim (decLt (k / 24) (R .m)) [
+    | yes h ↦ diagonal-off rows (widthOf n R) k (λ j g e. omega arith)
+        ∙ filled-at (R .m * 24) (upperPlace n R) zeros k (let z = length-replicate {A = ℤ} 864 (pos 0) in omega arith) (omega arith)
+        ∙ sym (start-row n R (k / 24) (k % 24) h)
+    | no h ↦ elim (ℕ-discrete (k / 24) (12 + k % 24)) [
+      | yes e ↦ elim (decLt (k % 24) (widthOf n R)) [
+        | yes g ↦ let p : k ≡ (12 + k % 24) * 24 + k % 24 = omega arith in
+            ap (at (enteredDiagonal (widthOf n R) rows)) p ∙ diagonal-on rows (widthOf n R) (k % 24) g wide long ∙ sym (start-one n R (k / 24) (k % 24) (omega arith) e g)
+        | no g ↦ diagonal-off rows (widthOf n R) k (λ j i q. omega arith) ∙ unentered k (omega arith) l ∙ sym (start-past n R (k / 24) (k % 24) (omega arith) e (omega arith))
+      ]
+      | no e ↦ diagonal-off rows (widthOf n R) k (λ j g q. omega arith) ∙ unentered k (omega arith) l ∙ sym (start-off n R (k / 24) (k % 24) (omega arith) e)
+    ]
+  ]
+
+  pub start-entered : enteredDiagonal (widthOf n R) (filled (R .m * 24) (upperPlace n R) (replicate 864 (pos 0))) ≡ startTable n R
+  unfolding startTable
+  start-entered = tabulate-is 864 (λ k. startCell n R (k / 24) (k % 24)) (enteredDiagonal (widthOf n R) rows) (diagonal-length rows (widthOf n R) ∙ long) entered-at
 
 -- Sound ----------------------------------------------------------------------------------------------------------------
 

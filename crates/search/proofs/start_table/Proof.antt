@@ -1,15 +1,16 @@
--- `search::start_table` meets its contract: the cells passed are filled. Assumes nothing.
-use mathlib.Core.Path.{_≡_, _∙_, ap, ap₂}
+-- `search::start_table` meets its contract: the rows passed are entered, then the diagonal. Assumes nothing.
+use mathlib.Core.Path.{_≡_, refl, _∙_, ap, ap₂}
 use mathlib.Core.List.{List}
-use Prim.Native.Nat.{ℕ, _-_, _≤_, _/_, _%_}
+use Prim.Native.Nat.{ℕ, _+_, _*_, _-_, _≤_}
 use native.Mathlib.Nat.{le-antisymm}
 use native.Mathlib.Omega.{arith}
-use lib.ListN.{set, replicate, length-replicate}
+use lib.ListN.{replicate}
 use lib.IntN.{ℤ, pos}
-use Rattle.integers.proofs.Laws.Bits.{stored-is}
-use Rattle.integers.proofs.Laws.Run.{filled, filled-none, filled-more, filled-all}
-use Rattle.problem.specs.Rows.{rowsOf}
-use Rattle.search.specs.State.{startCell, startTable}
+use Rattle.integers.proofs.Laws.Run.{filled, filled-none}
+use Rattle.problem.specs.Rows.{Rows, rowsOf}
+use Rattle.search.specs.State.{upperCell}
+use Rattle.search.specs.Code.{filledFrom, upperPlace, enteredDiagonal}
+use Rattle.search.proofs.Laws.Start.{congruences-few, from-filled, start-entered}
 use Rattle.search.proofs.start_table.Statement.{statement}
 use Rattle.search.proofs.start_table.Tie as tie
 
@@ -17,45 +18,69 @@ abbrev zeros : List ℤ
 zeros = replicate 864 (pos 0)
 
 abbrev Inv-loop : tie.InvT-loop
-Inv-loop n ma mb a b out₀ k₀ out k = (k ≤ 864) × (out ≡ filled k (λ r. startCell n (rowsOf n ma mb a b) (r / 24) (r % 24)) zeros)
+Inv-loop n ma mb a b out₀ m i₀ out i = (i ≤ m) × (out ≡ filled (i * 24) (upperPlace n (rowsOf n ma 0 a b)) zeros)
 
 abbrev μ-loop : tie.MeasureT-loop
-μ-loop n ma mb a b out₀ k₀ out k = 864 - k
+μ-loop n ma mb a b out₀ m i₀ out i = m - i
+
+abbrev rows : tie.Start Inv-loop μ-loop → ℕ → Rows
+rows s mb = rowsOf (s .args .n) (s .args .ma) mb (s .args .a .now) (s .args .b .now)
 
 abbrev value : tie.Start Inv-loop μ-loop → ℕ → ℤ
-value s r = startCell (s .args .n) (rowsOf (s .args .n) (s .args .ma) (s .args .mb) (s .args .a .now) (s .args .b .now)) (r / 24) (r % 24)
+value s = upperPlace (s .args .n) (rows s 0)
+
+-- the number of B's rows does not matter
+any : (s : tie.Start Inv-loop μ-loop) (k : ℕ) → filled k (value s) zeros ≡ filled k (upperPlace (s .args .n) (rows s (s .args .mb))) zeros
+unfolding upperCell
+any s k = refl
+
+own-few : (c : tie.After-own-column Inv-loop μ-loop) → c .own-column .result ≤ 24
+own-few c =
+    let s = c .before .before .before .before in
+    let e = c .own-column .ensures in
+    let h = congruences-few (rows s 0 .modulus) (s .args .ma + s .args .mb) in
+    omega arith
+
+add-m : tie.Need-add-m Inv-loop μ-loop
+add-m c = omega arith
 
 loop-holds : tie.Need-loop-holds Inv-loop μ-loop
 loop-holds c = (omega arith, filled-none (value c) zeros)
 
-start-cell-requires : tie.Need-start-cell-requires Inv-loop μ-loop
-start-cell-requires c κs = let s = c .before .before in (s .pre .0, s .pre .1, omega arith)
+enter-row-requires : tie.Need-enter-row-requires Inv-loop μ-loop
+enter-row-requires c κs = let s = c .before .before .before in (s .pre .0, omega arith)
 
-mul-out : tie.Need-mul-out Inv-loop μ-loop
-mul-out c = omega arith
-
-array-set-from-out : tie.Need-array-set-from-out Inv-loop μ-loop
-array-set-from-out c = omega arith
-
-add-k : tie.Need-add-k Inv-loop μ-loop
-add-k c = omega arith
+add-i : tie.Need-add-i Inv-loop μ-loop
+add-i c = omega arith
 
 loop-less : tie.Need-loop-less Inv-loop μ-loop
 loop-less c = omega arith
 
 loop-again : tie.Need-loop-again Inv-loop μ-loop
 loop-again c =
-    let l = c .before .before in
-    let k = l .loop .k in
-    let v = stored-is (record { sfits = c .start-cell .ok }) ∙ c .start-cell .ensures in
-    (omega arith, ap₂ (λ (run : List ℤ) (x : ℤ). set run k x) (l .loop .inv .1) v ∙ filled-more k (value (l .before)) zeros)
+    let l = c .before .before .before in
+    let i = l .loop .i in
+    let f = value (l .before) in
+    let e : i * 24 + 24 ≡ (i + 1) * 24 = omega arith in
+    (omega arith, c .enter-row .ensures ∙ ap (filledFrom (i * 24) 24 f) (l .loop .inv .1) ∙ from-filled (i * 24) f zeros 24 ∙ ap (λ (k : ℕ). filled k f zeros) e)
+
+own-column-requires : tie.Need-own-column-requires Inv-loop μ-loop
+own-column-requires c κs = c .before .before .before .pre
+
+enter-diagonal-requires : tie.Need-enter-diagonal-requires Inv-loop μ-loop
+enter-diagonal-requires c κs = own-few c
 
 returns : tie.Need-returns Inv-loop μ-loop
-unfolding startTable
 returns c =
-    let l = c .before in
-    let s = l .before in
-    l .loop .inv .1 ∙ ap (λ (k : ℕ). filled k (value s) zeros) (le-antisymm (l .loop .inv .0) (c .loop-test .left)) ∙ filled-all 864 (value s) zeros (length-replicate 864 (pos 0))
+    let o = c .before in
+    let l = o .before .before in
+    let at-loop = l .before in
+    let s = at-loop .before in
+    let m = s .args .ma + s .args .mb in
+    let all = at-loop .loop .inv .1 ∙ ap (λ (i : ℕ). filled (i * 24) (value s) zeros) (le-antisymm (at-loop .loop .inv .0) (l .loop-test .left)) ∙ any s (m * 24) in
+    let few = own-few o in
+    let own = o .own-column .ensures in
+    c .enter-diagonal .ensures ∙ ap₂ enteredDiagonal own all ∙ start-entered (s .args .n) (rows s (s .args .mb)) (s .pre .1) (omega arith)
 
 pub start-table-spec : {M : Type 1} → statement M
 start-table-spec =
@@ -63,11 +88,12 @@ start-table-spec =
     (tie.spec
     Inv-loop
     μ-loop
+    add-m
     loop-holds
-    start-cell-requires
-    mul-out
-    array-set-from-out
-    add-k
+    enter-row-requires
+    add-i
     loop-less
     loop-again
+    own-column-requires
+    enter-diagonal-requires
     returns)

@@ -14,17 +14,14 @@ number-requires : tie.Need-number-requires
 number-requires c κs = search needs
 
 returns : tie.Need-returns
-returns c = let s = c .before .before in
+returns c =
+    let s = c .before .before in
     stored-is (record { sfits = c .number .ok }) ∙ c .number .ensures ∙ sym (upper-coef (s .args .n) (rows s) (s .args .i) (s .args .j) (c .before .if1 .taken))
-
-own-column-requires : tie.Need-own-column-requires
-own-column-requires c κs = search needs
 
 returns-2 : tie.Need-returns-2
 returns-2 c =
-    let o = c .before in
-    let s = o .before .before in
-    sym (upper-zero (s .args .n) (rows s) (s .args .i) (s .args .j) (o .before .if1 .left) (λ e. c .if2 .taken (e ∙ sym (o .own-column .ensures))))
+    let s = c .before .before in
+    sym (upper-zero (s .args .n) (rows s) (s .args .i) (s .args .j) (c .before .if1 .left) (λ e. c .if2 .taken (e ∙ sym (s .pre .3))))
 
 add-number : tie.Need-add-number
 add-number c = search needs
@@ -34,22 +31,12 @@ number-requires-2 c κs = search needs
 
 returns-3 : tie.Need-returns-3
 returns-3 c =
-    let o = c .before .before in
-    let s = o .before .before in
+    let s = c .before .before .before in
     let a = s .args in
     stored-is (record { sfits = c .number2 .ok })
     ∙ c .number2 .ensures
     ∙ modulus-is (a .n) (a .ma) 0 (a .a .now) (a .b .now) (a .i)
-    ∙ sym (upper-modulus (a .n) (rows s) (a .i) (a .j) (o .before .if1 .left) (c .before .if2 .left ∙ o .own-column .ensures))
+    ∙ sym (upper-modulus (a .n) (rows s) (a .i) (a .j) (c .before .before .if1 .left) (c .before .if2 .left ∙ s .pre .3))
 
 pub upper-cell-spec : {M : Type 1} → statement M
-upper-cell-spec =
-    tie.close
-    (tie.spec
-    number-requires
-    returns
-    own-column-requires
-    returns-2
-    add-number
-    number-requires-2
-    returns-3)
+upper-cell-spec = tie.close (tie.spec number-requires returns returns-2 add-number number-requires-2 returns-3)
