@@ -282,7 +282,7 @@ impl State {
             return self;
         }
         let z = divided(r, e);
-        if integers::within(268435456, z) {
+        if in_bound(z) {
             close_table(&mut self.cells, row, j, count);
             self.pivots[count] = row;
             self.zs[count] = z;
@@ -321,7 +321,7 @@ impl State {
             return self.closed(next);
         }
         let z = divided(r, e);
-        if integers::within(268435456, z) {
+        if in_bound(z) {
             let next = self.placed(t, z);
             return self.closed(next);
         }
@@ -573,7 +573,7 @@ fn subtraction_fits(cells: &[i64; 864], first: usize, second: usize, q: i64) -> 
     while i < 36 {
         let y = get(cells, i, second);
         let x = get(cells, i, first);
-        if !integers::within(268435456, less_times(y, q, x)) {
+        if !in_bound(less_times(y, q, x)) {
             return false;
         }
         i += 1;
@@ -700,7 +700,7 @@ fn all_small(x: &[i64; 12], n: usize) -> bool
 {
     let mut k: usize = 0;
     while k < n {
-        if !integers::within(268435456, x[k]) {
+        if !in_bound(x[k]) {
             return false;
         }
         k += 1;
@@ -828,6 +828,13 @@ fn non_divisor(s: i64) -> i64
 }
 
 // ---- Numbers
+
+// Whether a cell, a z or a place of the point is not too large.
+fn in_bound(x: i64) -> bool
+    ensures { λ r. ⌜ r ≡ within bound x ⌝ }
+{
+    integers::within(268435456, x)
+}
 
 // Cut towards zero.
 fn quotient(y: i64, x: i64) -> i64

@@ -22,27 +22,27 @@ abbrev μ-loop : tie.MeasureT-loop
 abbrev test : tie.Start Inv-loop μ-loop → ℕ → Bool
 test s i = within bound (at (s .args .x .now) i)
 
-tested : (c : tie.After-within Inv-loop μ-loop) → let l = c .before .before .before in c .within .result ≡ test (l .before) (l .loop .k)
+tested : (c : tie.After-in-bound Inv-loop μ-loop) → let l = c .before .before .before in c .in-bound .result ≡ test (l .before) (l .loop .k)
 tested c =
     let l = c .before .before .before in
-    c .within .ensures ∙ ap (within bound) (stored-is {z = at (l .before .args .x .now) (l .loop .k)} (record { sfits = c .before .within-arg .given }))
+    c .in-bound .ensures ∙ ap (within bound) (stored-is {z = at (l .before .args .x .now) (l .loop .k)} (record { sfits = c .before .in-bound-arg .given }))
 
 loop-holds : tie.Need-loop-holds Inv-loop μ-loop
 loop-holds c = (omega arith, all-none (test c))
 
-mul-within : tie.Need-mul-within Inv-loop μ-loop
-mul-within c = omega arith
+mul-in-bound : tie.Need-mul-in-bound Inv-loop μ-loop
+mul-in-bound c = omega arith
 
-element-copy-out-within : tie.Need-element-copy-out-within Inv-loop μ-loop
-element-copy-out-within c = omega arith
+element-copy-out-in-bound : tie.Need-element-copy-out-in-bound Inv-loop μ-loop
+element-copy-out-in-bound c = omega arith
 
-within-requires : tie.Need-within-requires Inv-loop μ-loop
-within-requires c κs = tt
+in-bound-requires : tie.Need-in-bound-requires Inv-loop μ-loop
+in-bound-requires c κs = tt
 
 returns : tie.Need-returns Inv-loop μ-loop
 returns c =
     let l = c .before .before .before .before in
-    let e = sym (tested (c .before)) ∙ not-true (c .before .within .result) (c .if1 .taken) in
+    let e = sym (tested (c .before)) ∙ not-true (c .before .in-bound .result) (c .if1 .taken) in
     all-stop (l .before .args .n) (test (l .before)) (l .loop .k) (c .before .before .before .loop-test .taken) e
 
 add-k : tie.Need-add-k Inv-loop μ-loop
@@ -54,7 +54,7 @@ loop-less c = omega arith
 loop-again : tie.Need-loop-again Inv-loop μ-loop
 loop-again c =
     let l = c .before .before .before .before in
-    let e = sym (tested (c .before)) ∙ not-false (c .before .within .result) (c .if1 .left) in
+    let e = sym (tested (c .before)) ∙ not-false (c .before .in-bound .result) (c .if1 .left) in
     (omega arith, all-onward (l .before .args .n) (test (l .before)) (l .loop .k) (l .loop .inv .1) e)
 
 returns-2 : tie.Need-returns-2 Inv-loop μ-loop
@@ -67,9 +67,9 @@ all-small-spec =
     Inv-loop
     μ-loop
     loop-holds
-    mul-within
-    element-copy-out-within
-    within-requires
+    mul-in-bound
+    element-copy-out-in-bound
+    in-bound-requires
     returns
     add-k
     loop-less

@@ -30,11 +30,11 @@ second-is c = stored-is (record { sfits = c .get .ok }) ∙ c .get .ensures
 first-is : (c : tie.After-get2 Inv-loop μ-loop) → let l = c .before .before .before in stored (c .get2 .result) ≡ cell (l .before .args .cells .now) (l .loop .i) (l .before .args .first)
 first-is c = stored-is (record { sfits = c .get2 .ok }) ∙ c .get2 .ensures
 
-tested : (c : tie.After-within Inv-loop μ-loop) → let l = c .before .before .before .before .before in c .within .result ≡ test (l .before) (l .loop .i)
+tested : (c : tie.After-in-bound Inv-loop μ-loop) → let l = c .before .before .before .before .before in c .in-bound .result ≡ test (l .before) (l .loop .i)
 tested c =
     let r = c .before in
     let s = r .before .before .before .before .before in
-    c .within .ensures
+    c .in-bound .ensures
     ∙ ap (within bound) (stored-is (record { sfits = r .less-times .ok }) ∙ r .less-times .ensures ∙ ap₂ (λ y x. lessTimes y (stored (s .args .q)) x) (second-is (r .before .before)) (first-is (r .before)))
 
 loop-holds : tie.Need-loop-holds Inv-loop μ-loop
@@ -54,14 +54,14 @@ less-times-requires c κs =
       subst⁻¹ (λ z. natAbs z ≤ bound) (first-is c) (s .pre .3 .place _),
     )
 
-within-requires : tie.Need-within-requires Inv-loop μ-loop
-within-requires c κs = tt
+in-bound-requires : tie.Need-in-bound-requires Inv-loop μ-loop
+in-bound-requires c κs = tt
 
 returns : tie.Need-returns Inv-loop μ-loop
 returns c =
     let l = c .before .before .before .before .before .before in
     let s = l .before in
-    let e = sym (tested (c .before)) ∙ not-true (c .before .within .result) (c .if1 .taken) in
+    let e = sym (tested (c .before)) ∙ not-true (c .before .in-bound .result) (c .if1 .taken) in
     all-stop 36 (test s) (l .loop .i) (omega arith) e
     ∙ ap (subtractionFits (s .args .cells .now) (s .args .first) (s .args .second)) (stored-is (s .fits .q))
 
@@ -74,7 +74,7 @@ loop-less c = omega arith
 loop-again : tie.Need-loop-again Inv-loop μ-loop
 loop-again c =
     let l = c .before .before .before .before .before .before in
-    let e = sym (tested (c .before)) ∙ not-false (c .before .within .result) (c .if1 .left) in
+    let e = sym (tested (c .before)) ∙ not-false (c .before .in-bound .result) (c .if1 .left) in
     (omega arith, all-onward 36 (test (l .before)) (l .loop .i) (l .loop .inv .1) e)
 
 returns-2 : tie.Need-returns-2 Inv-loop μ-loop
@@ -94,7 +94,7 @@ subtraction-fits-spec =
     get-requires
     get-requires-2
     less-times-requires
-    within-requires
+    in-bound-requires
     returns
     add-i
     loop-less

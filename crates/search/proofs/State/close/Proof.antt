@@ -71,7 +71,7 @@ of-zero c = of-divides (tested (c .before))
 abbrev of-divided : tie.After-divided → tie.Start
 of-divided c = of-zero (c .before .before)
 
-abbrev of-within : tie.After-within → tie.Start
+abbrev of-within : tie.After-in-bound → tie.Start
 of-within c = of-divided (c .before)
 
 -- the values, where the code has them
@@ -109,8 +109,8 @@ quotient-is c =
     let d = tested (c .before .before .before) in
     stored-is (record { sfits = c .divided .ok }) ∙ c .divided .ensures ∙ ap₂ quotZ (less-is (d .before)) (pivot-is d)
 
-within-is : (c : tie.After-within) → c .within .result ≡ within bound (Z (of-within c))
-within-is c = c .within .ensures ∙ ap (within bound) (quotient-is (c .before))
+within-is : (c : tie.After-in-bound) → c .in-bound .result ≡ within bound (Z (of-within c))
+within-is c = c .in-bound .ensures ∙ ap (within bound) (quotient-is (c .before))
 
 -- the definition, by the tests' answers
 close-way : (c : tie.After-divides) (b : Bool) → c .divides .result ≡ b → let s = of-divides c in closeBy b (S s) (T s) (E s) ≡ closeOf (S s) (s .args .j)
@@ -123,7 +123,7 @@ go-on-way c b h =
     let s = of-zero c in
     ap (λ (x : Bool). goOnBy x (S s) (T s) (E s)) (sym h ∙ zero-is c) ∙ close-way (tested (c .before)) true (not-false _ (c .before .before .before .if1 .left))
 
-place-way : (c : tie.After-within) (b : Bool) → c .within .result ≡ b → let s = of-within c in placeBy b (S s) (T s) (Z s) ≡ closeOf (S s) (s .args .j)
+place-way : (c : tie.After-in-bound) (b : Bool) → c .in-bound .result ≡ b → let s = of-within c in placeBy b (S s) (T s) (Z s) ≡ closeOf (S s) (s .args .j)
 unfolding goOnBy
 place-way c b h =
     let s = of-within c in
@@ -206,8 +206,8 @@ divided-requires c κs =
       subst⁻¹ (λ (x : ℤ). 0 < natAbs x) (pivot-is d) (omega arith),
     )
 
-within-requires : tie.Need-within-requires
-within-requires c κs = tt
+in-bound-requires : tie.Need-in-bound-requires
+in-bound-requires c κs = tt
 
 close-table-requires : tie.Need-close-table-requires
 close-table-requires c κs = search needs
@@ -270,7 +270,7 @@ close-spec =
     add-self-2
     returns-3
     divided-requires
-    within-requires
+    in-bound-requires
     close-table-requires
     mul-self
     element-write-self

@@ -49,7 +49,7 @@ of-passed c = of-zero (c .before .before)
 abbrev of-divided : tie.After-divided → tie.Start
 of-divided c = of-zero (c .before .before)
 
-abbrev of-within : tie.After-within → tie.Start
+abbrev of-within : tie.After-in-bound → tie.Start
 of-within c = of-divided (c .before)
 
 abbrev of-placed : tie.After-placed → tie.Start
@@ -68,8 +68,8 @@ passed-is c = c .passed .ensures ∙ ap (passed (S (of-passed c))) (c .before .b
 quotient-is : (c : tie.After-divided) → stored (c .divided .result) ≡ Z (of-divided c)
 quotient-is c = let s = of-divided c in stored-is (record { sfits = c .divided .ok }) ∙ c .divided .ensures ∙ ap₂ quotZ (residual-is s) (stored-is (s .fits .e))
 
-within-is : (c : tie.After-within) → c .within .result ≡ within bound (Z (of-within c))
-within-is c = c .within .ensures ∙ ap (within bound) (quotient-is (c .before))
+within-is : (c : tie.After-in-bound) → c .in-bound .result ≡ within bound (Z (of-within c))
+within-is c = c .in-bound .ensures ∙ ap (within bound) (quotient-is (c .before))
 
 placed-is : (c : tie.After-placed) → let s = of-placed c in c .placed .result ≡ placed (S s) (T s) (Z s)
 placed-is c =
@@ -81,7 +81,7 @@ go-on-way : (c : tie.After-is-zero) (b : Bool) → c .is-zero .result ≡ b → 
 unfolding closeBy
 go-on-way c b h = let s = of-zero c in ap (λ (x : Bool). goOnBy x (S s) (T s) (E s)) (sym h ∙ zero-is c)
 
-place-way : (c : tie.After-within) (b : Bool) → c .within .result ≡ b → let s = of-within c in placeBy b (S s) (T s) (Z s) ≡ closeBy true (S s) (T s) (E s)
+place-way : (c : tie.After-in-bound) (b : Bool) → c .in-bound .result ≡ b → let s = of-within c in placeBy b (S s) (T s) (Z s) ≡ closeBy true (S s) (T s) (E s)
 unfolding goOnBy
 place-way c b h =
     let s = of-within c in
@@ -114,8 +114,8 @@ divided-requires c κs =
       subst⁻¹ (λ (x : ℤ). 0 < natAbs x) (stored-is (s .fits .e)) (omega arith),
     )
 
-within-requires : tie.Need-within-requires
-within-requires c κs = tt
+in-bound-requires : tie.Need-in-bound-requires
+in-bound-requires c κs = tt
 
 placed-requires : tie.Need-placed-requires
 placed-requires c κs = search needs
@@ -149,7 +149,7 @@ close-last-spec =
     closed-requires
     returns
     divided-requires
-    within-requires
+    in-bound-requires
     placed-requires
     closed-requires-2
     returns-2
