@@ -8,6 +8,10 @@
 --     Refusal   what the refusal before any step says
 --     Sums      the sums that the code takes stay far below 2^63
 --     Vector    what the code computes of the vector is what the definitions say; what is in order is in range
+--     Columns   operations on columns, and what they keep
+--     Fuel      a reduction less than halves an entry, and what that leaves for a row
+--     Faithful  table, pivots and z stay faithful to the rows that were entered
+--     Back      the numerators, going back over the pivot columns
 pub mod Table
 pub mod Scan
 pub mod Sound
@@ -16,3 +20,7 @@ pub mod Start
 pub mod Refusal
 pub mod Sums
 pub mod Vector
+pub mod Columns
+pub mod Fuel
+pub mod Faithful
+pub mod Back
