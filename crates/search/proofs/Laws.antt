@@ -24,3 +24,6 @@ pub mod Columns
 pub mod Fuel
 pub mod Faithful
 pub mod Back
+pub mod Refuting
+pub mod Kept
+pub mod Close

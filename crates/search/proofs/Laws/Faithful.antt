@@ -13,17 +13,21 @@
 --     faithful-passed        so does a close without pivot whose residual is 0
 --     faithful-placed        and a close with a pivot, whose z makes up the constant
 --     faithful-point         all rows closed: the lower table times z meets C and d
+--     FaithfulAt C s t       the same of a state s whose table is t
 --
 -- Assumes nothing.
 use mathlib.Core.Path.{_≡_, sym, _∙_, ap, subst⁻¹}
 use Prim.Native.Nat.{ℕ, suc, _+_, _<_, _≤_}
 use native.Mathlib.Decide.{decLt}
 use native.Mathlib.Omega.{arith}
+use mathlib.Core.List.{List}
 use lib.IntN.{ℤ, pos, _+ℤ_, _*ℤ_, zero-*ℤ, +ℤ-idr}
 use Rattle.integers.specs.Range.{Positive}
 use Rattle.integers.specs.Divisibility.{_∣ℤ_}
 use Rattle.integers.specs.Sum.{dot}
 use Rattle.integers.proofs.Laws.Sum.{sum-ext, sum-more, dot-exchange}
+use Rattle.search.specs.Table.{cell}
+use Rattle.search.specs.State.{State, constOf, pivotOf, zOf}
 use Rattle.search.proofs.Laws.Columns.{Table, Operation, operation-combines, operation-divides, operation-zeros}
 
 pub record Faithful (m N : ℕ) (C : Table) (d : ℕ → ℤ) (T : Table) (row count : ℕ) (pivot : ℕ → ℕ) (z : ℕ → ℤ) : Type 0 where
@@ -145,3 +149,6 @@ module _ {m N : ℕ} {C : Table} {d : ℕ → ℤ} {T : Table} {row count : ℕ}
       dot-exchange N count (C i) z (λ k j. T (12 + k) j)
       ∙ sum-ext count (λ j. dot N (C i) (λ k. T (12 + k) j) *ℤ z j) (λ j. T i j *ℤ z j) (λ j h. ap (λ x. x *ℤ z j) (sym (f .product i j l (omega arith))))
       ∙ f .met i (omega arith)
+
+abbrev pub FaithfulAt : Table → State → List ℤ → Type 0
+FaithfulAt C s t = Faithful (s .given .m) (s .given .width) C (constOf (s .given)) (cell t) (s .row) (s .count) (pivotOf s) (zOf s)

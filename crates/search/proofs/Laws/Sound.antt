@@ -1,5 +1,10 @@
 -- What a step asks of its state, it leaves to the next.
 --
+--     Close      close-bounded  close-length  close-kept     the closed table: bounded and as long again, its other columns kept
+--                close-pivot       a column that is not 0 in the row becomes the pivot, above 0
+--     Columns    first-is  second-is  first-in  first-zero   the two columns that a step takes; an entry 0 in the first: it is column r
+--                count-low  row-low                          the number of pivots and the row stay below 12
+--                entry-positive    the entry of a closed row, where it is not 0
 --     Step       step-counts       a step counts as one
 --                step-reducible    what Reduce asks, where there is a second column
 --                step-closable     what Close asks
@@ -175,10 +180,10 @@ module _ (s : State) (h : Sound s) where
   abbrev span : ℕ
   span = s .given .width - s .count
 
-  first-is : Least row (s .count) span (firstColumn s)
+  pub first-is : Least row (s .count) span (firstColumn s)
   first-is = least-is row (s .count) span
 
-  second-is : Other row (firstColumn s) (s .count) span (secondColumn s)
+  pub second-is : Other row (firstColumn s) (s .count) span (secondColumn s)
   second-is = other-is row (firstColumn s) (s .count) span
 
   pub first-in : firstColumn s < 24
@@ -187,14 +192,14 @@ module _ (s : State) (h : Sound s) where
     | no l ↦ let a = first-is .high in let c = h .count-in in let r = h .row-in in let m = h .few-m in omega arith
   ]
 
-  count-low : s .count < 12
+  pub count-low : s .count < 12
   count-low = let c = h .count-in in let r = h .row-in in let m = h .few-m in omega arith
 
-  row-low : s .row < 12
+  pub row-low : s .row < 12
   row-low = let r = h .row-in in let m = h .few-m in omega arith
 
   -- an entry 0 in the first column says that all are 0, and the first column is that of the next pivot
-  first-zero : row (firstColumn s) ≡ pos 0 → firstColumn s ≡ s .count
+  pub first-zero : row (firstColumn s) ≡ pos 0 → firstColumn s ≡ s .count
   first-zero = least-zero row (s .count) span
 
   pub step-reducible : s .steps < lastCount → (secondColumn s ≡ firstColumn s → ⊥) → Reducible s (firstColumn s) (secondColumn s)
@@ -288,8 +293,8 @@ module _ (s : State) (h : Sound s) where
     C-pivot : (k : ℕ) → k < s .count → Positive (cell C (pivotOf s k) k)
     C-pivot = closed-pivot (firstColumn s) first-in (first-is .low)
 
-    E-positive : isZero E ≡ false → Positive E
-    E-positive z =
+    pub entry-positive : isZero E ≡ false → Positive E
+    entry-positive z =
         let i = row-low in
         let c = count-low in
         close-pivot (s .cells) (s .row) (firstColumn s) (s .count) first-in (r-in (firstColumn s) first-in (first-is .low))
@@ -340,7 +345,7 @@ module _ (s : State) (h : Sound s) where
           | no e ↦ subst⁻¹ (λ (i : ℕ). i < 12) (old k e) (h .pivot-row k (omega arith))
         ];
         pivot = λ k l. elim (ℕ-discrete k (s .count)) [
-          | yes e ↦ subst⁻¹ (λ (i : ℕ). Positive (cell C (getD (set (s .pivots) (s .count) (s .row)) i 0) i)) e (subst⁻¹ (λ (i : ℕ). Positive (cell C i (s .count))) new (E-positive some))
+          | yes e ↦ subst⁻¹ (λ (i : ℕ). Positive (cell C (getD (set (s .pivots) (s .count) (s .row)) i 0) i)) e (subst⁻¹ (λ (i : ℕ). Positive (cell C i (s .count))) new (entry-positive some))
           | no e ↦ subst⁻¹ (λ (i : ℕ). Positive (cell C i k)) (old k e) (C-pivot k (omega arith))
         ];
       }
