@@ -27,3 +27,5 @@ pub mod Back
 pub mod Refuting
 pub mod Kept
 pub mod Close
+pub mod Reached
+pub mod Entered

@@ -4,6 +4,7 @@
 --     after-more      unfinished after b steps: one more step gives the state after b + 1
 --     after-stops     finished after b steps: the same state after any more
 --     after-count     unfinished after b steps: they are b, and counted so
+--     after-given     what is given stays
 --     after-sound     unfinished after b steps from a sound state: still sound
 --
 -- Assumes nothing.
@@ -16,7 +17,7 @@ use Rattle.search.specs.State.{State, Outcome, Unfinished, TooLarge, Ref
 use Rattle.search.specs.Step.{stepOf}
 use Rattle.search.specs.Run.{isUnfinished, nextBy, after}
 use Rattle.search.specs.Code.{Sound}
-use Rattle.search.proofs.Laws.Sound.{step-counts, step-sound}
+use Rattle.search.proofs.Laws.Sound.{step-onward, step-sound}
 
 next-goes : (o : Outcome) (s : State) → isUnfinished o ≡ true → nextBy o s ≡ stepOf s
 unfolding nextBy
@@ -75,8 +76,19 @@ module _ (s : State) where
   after-count (suc b) u =
       let g = before b u in
       let e = after-count b g in
-      let f = ap (λ (t : State). t .steps) (goes-on b g) ∙ step-counts (after b s) in
+      let f = ap (λ (t : State). t .steps) (goes-on b g) ∙ step-onward (after b s) .counts in
       omega arith
+
+  pub after-given : (b : ℕ) → after b s .given ≡ s .given
+  unfolding after nextBy
+  after-given zero = refl
+  after-given (suc b) = go (after b s .outcome) ∙ after-given b
+    where
+      go : (o : Outcome) → nextBy o (after b s) .given ≡ after b s .given
+      go Unfinished = step-onward (after b s) .given
+      go TooLarge = refl
+      go (Refuted q) = refl
+      go Solved = refl
 
   pub after-sound : Sound s → (b : ℕ) → goes b ≡ true → Sound (after b s)
   unfolding after
