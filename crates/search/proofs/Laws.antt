@@ -29,3 +29,4 @@ pub mod Kept
 pub mod Close
 pub mod Reached
 pub mod Entered
+pub mod Exceeds

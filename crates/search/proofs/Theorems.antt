@@ -6,3 +6,6 @@
 --                   table-larger                                          and leaves the same table
 pub mod Unfinished
 pub mod Larger
+pub mod Enough
+pub mod Right
+pub mod TooLarge

@@ -3,6 +3,7 @@
 --     after-none      no step: s itself
 --     after-more      unfinished after b steps: one more step gives the state after b + 1
 --     after-stops     finished after b steps: the same state after any more
+--     after-last      unfinished at first and finished after b steps: there is a last step that was taken
 --     after-count     unfinished after b steps: they are b, and counted so
 --     after-given     what is given stays
 --     after-sound     unfinished after b steps from a sound state: still sound
@@ -10,7 +11,7 @@
 -- Assumes nothing.
 use mathlib.Core.Path.{_≡_, refl, sym, _∙_, ap, subst, subst⁻¹}
 use mathlib.Core.Bool.{Bool, true, false, false≢true, true≢false}
-use Prim.Native.Nat.{ℕ, zero, suc, _+_, _-_, _≤_}
+use Prim.Native.Nat.{ℕ, zero, suc, _+_, _-_, _<_, _≤_}
 use native.Mathlib.Numerals.{add-one}
 use native.Mathlib.Omega.{arith}
 use Rattle.search.specs.State.{State, Outcome, Unfinished, TooLarge, Refuted, Solved}
@@ -61,6 +62,20 @@ module _ (s : State) where
 
   pub after-stops : (b c : ℕ) → b ≤ c → goes b ≡ false → after c s ≡ after b s
   after-stops b c l u = stops-for b (c - b) c (omega arith) u
+
+  pub record LastStep (b : ℕ) : Type 0 where
+    pub k : ℕ
+    pub within-b : k < b
+    pub unfinished : goes k ≡ true
+    pub ends : stepOf (after k s) ≡ after b s
+
+  pub after-last : goes 0 ≡ true → (b : ℕ) → goes b ≡ false → LastStep b
+  after-last u zero f = absurd (true≢false (sym u ∙ f))
+  after-last u (suc b) f = go (goes b) refl (after-last u b)
+    where
+      go : (t : Bool) → goes b ≡ t → (goes b ≡ false → LastStep b) → LastStep (suc b)
+      go true e earlier = record { k = b; within-b = omega arith; unfinished = e; ends = sym (goes-on b e) }
+      go false e earlier = let l = earlier e in let h = l .within-b in record { k = l .k; within-b = omega arith; unfinished = l .unfinished; ends = l .ends ∙ sym (stops b e) }
 
   -- what is unfinished after b + 1 steps was so after b
   before : (b : ℕ) → goes (suc b) ≡ true → goes b ≡ true
