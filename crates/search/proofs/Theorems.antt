@@ -9,3 +9,4 @@ pub mod Larger
 pub mod Enough
 pub mod Right
 pub mod TooLarge
+pub mod Demand

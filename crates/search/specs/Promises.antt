@@ -7,6 +7,7 @@
 --     NoPoint, SomePoint    no point meets the rows; some point does
 --     Decided               refuted exactly when no point meets the rows, solved exactly when some point does
 --     Exceeds s             the next step of s would put a number above its bound; one case for each place
+--     Overflows s budget    so does some step from s within the budget, before which the search is unfinished
 --     Demand                demand 3 of one call of `search`, for every budget
 use mathlib.Core.Path.{_≡_}
 use mathlib.Core.Bool.{Bool, true, false, cond}
@@ -26,7 +27,7 @@ use Rattle.search.specs.State.{State, Outcome, TooLarge, Refuted, Solved
 use Rattle.search.specs.Vector.{Vector, vectorOf}
 use Rattle.search.specs.Step.{firstColumn, secondColumn, quotient, closeTable, residualOf, placeOf, passed, placed}
 use Rattle.search.specs.Run.{isUnfinished, after}
-use Rattle.search.specs.Answer.{searched, searchReply, searchVector, searchPoint}
+use Rattle.search.specs.Answer.{searchReply, searchVector, searchPoint}
 use Rattle.search.specs.declared.Reply.{Reply}
 use Rattle.search.specs.declared.Reply.the-variants.{Refused, Answered}
 
@@ -98,6 +99,12 @@ pub data Exceeds (s : State) : Type 0 where
   a-numerator : secondColumn s ≡ firstColumn s → (closedEntry s ∣ℤ closedResidual s → ⊥) → (i : ℕ) → i < 12 → million < natAbs (at (closedVector s .p) i) → Exceeds s
   a-denominator : secondColumn s ≡ firstColumn s → (closedEntry s ∣ℤ closedResidual s → ⊥) → million < natAbs (closedVector s .q) → Exceeds s
 
+pub record Overflows (s : State) (budget : ℕ) : Type 0 where
+  pub k : ℕ
+  pub in-budget : k < budget
+  pub unfinished : isUnfinished (after k s .outcome) ≡ true
+  pub exceeds : Exceeds (after k s)
+
 -- Demand 3 -------------------------------------------------------------------------------------------------------------
 
 -- `vector` and `point` are the lent runs as the call finds them
@@ -131,5 +138,5 @@ module _ (n ma mb : ℕ) (a b vector point : List ℤ) where
     pub solved-meets : (budget : ℕ) → Says (answer budget) Solved → Meets n rows (at (pointRun budget))
     -- finished and not too large: refuted exactly when no point meets all rows, and otherwise solved
     pub decided : (budget : ℕ) → saysUnfinished (answer budget) ≡ false → (Says (answer budget) TooLarge → ⊥) → Decided n rows ((q : ℤ) × Says (answer budget) (Refuted q)) (Says (answer budget) Solved)
-    -- too large: some step within the budget would put a number above its bound
-    pub too-large : (budget : ℕ) → Says (answer budget) TooLarge → (k : ℕ) × (k < budget) × Exceeds (searched n ma mb a b k)
+    -- too large exactly when some step within the budget would put a number above its bound
+    pub too-large : (budget : ℕ) → (Says (answer budget) TooLarge → Overflows (start n rows) budget) × (Overflows (start n rows) budget → Says (answer budget) TooLarge)
