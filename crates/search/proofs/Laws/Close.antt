@@ -12,9 +12,9 @@ use native.Mathlib.Omega.{arith}
 use native.Mathlib.Decide.{ℕ-discrete, decLt}
 use borrow.Author.Tests.{eqb-true, lt-ltb}
 use lib.Dec.{eqb, ltb}
-use lib.ListN.{getD, set, length, length-set}
+use lib.ListN.{getD, set, length-set}
 use lib.Seq.{getD-set-same, getD-set-other}
-use lib.IntN.{ℤ, pos, negsuc, natAbs, _+ℤ_, _*ℤ_, +ℤ-idl}
+use lib.IntN.{ℤ, pos, negsuc, _+ℤ_, _*ℤ_, +ℤ-idl}
 use lib.Signed.{quotZ}
 use Rattle.integers.specs.Range.{isZero, within}
 use Rattle.integers.specs.Divisibility.{_∣ℤ_, divides}
@@ -28,15 +28,15 @@ use Rattle.integers.proofs.Laws.Decide.{by-zero, decides-no}
 use Rattle.integers.proofs.Laws.Run.{tabulate-at}
 use Rattle.search.specs.Table.{bound, cell, Bounded}
 use Rattle.search.specs.State.{State, Outcome, Unfinished, constOf, zOf}
-use Rattle.search.specs.Vector.{Vector, vectorOf}
+use Rattle.search.specs.Vector.{vectorOf}
 use Rattle.search.specs.Step.{firstColumn, secondColumn, tooLarge, closeTable, residualOf, placeOf, pointOf, solveBy, lastBy, closed, passed, placed, placeBy, goOnBy, refuteBy, closeBy, closeOf}
 use Rattle.search.specs.Code.{Sound}
 use Rattle.search.proofs.Laws.Sound.{close-bounded, first-in, count-low, entry-positive}
 use Rattle.search.proofs.Laws.Columns.{Table}
 use Rattle.search.proofs.Laws.Fuel.{Fuel, fuel-close}
-use Rattle.search.proofs.Laws.Faithful.{Faithful, faithful-passed, faithful-placed, faithful-point}
+use Rattle.search.proofs.Laws.Faithful.{faithful-passed, faithful-placed, faithful-point}
 use Rattle.search.proofs.Laws.Refuting.{residual-is, vector-refutes}
-use Rattle.search.proofs.Laws.Kept.{Kept, SolvesTable, Right, Closing, closing}
+use Rattle.search.proofs.Laws.Kept.{Kept, Right, Closing, closing}
 
 -- a row of s is closed, by `next`: on to the next row, or solved
 closed-right : (C : Table) (s next : State) → next .given .n ≤ 12 → next .outcome ≡ Unfinished → Kept C next → Right C (closed s next .outcome) (closed s next)

@@ -34,7 +34,7 @@ use Rattle.search.proofs.Laws.Start.{congruences-few, congruences-rise,
 use Rattle.search.proofs.Laws.Fuel.{fuel-start}
 use Rattle.search.proofs.Laws.Faithful.{Faithful}
 use Rattle.search.proofs.Laws.Refuting.{RefutesTable}
-use Rattle.search.proofs.Laws.Kept.{Kept, SolvesTable, Right}
+use Rattle.search.proofs.Laws.Kept.{SolvesTable, Right}
 
 module _ (n : ℕ) (R : Rows) (few-n : n ≤ 12) (few-m : R .m ≤ 12) where
   abbrev N : ℕ

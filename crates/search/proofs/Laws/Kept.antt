@@ -11,7 +11,7 @@
 use mathlib.Core.Path.{_≡_, refl, sym, ap, subst⁻¹, _∙_}
 use mathlib.Core.List.{List}
 use mathlib.Core.Bool.{Bool, true, false}
-use Prim.Native.Nat.{ℕ, _+_, _*_, _-_, _≤_, _<_}
+use Prim.Native.Nat.{ℕ, _*_, _≤_, _<_}
 use native.Mathlib.Omega.{arith}
 use native.Mathlib.Decide.{ℕ-discrete, decLt}
 use lib.ListN.{length}
@@ -25,10 +25,10 @@ use Rattle.search.specs.State.{Given, State, Outcome, Unfinished, TooLar
 use Rattle.search.specs.Step.{firstColumn, secondColumn, tooLarge, quotient, reduceBy, reduceOf, negateBy, swapBy, closeTable}
 use Rattle.search.specs.Code.{Sound}
 use Rattle.search.proofs.Laws.Table.{subtract-cell, subtract-other, swap-length, swap-first, swap-other, negate-other}
-use Rattle.search.proofs.Laws.Sound.{first-is, second-is, first-in, count-low, row-low}
+use Rattle.search.proofs.Laws.Sound.{first-is, second-is, count-low, row-low}
 use Rattle.search.proofs.Laws.Columns.{Table, subtract-operation, swap-operation, negate-operation}
 use Rattle.search.proofs.Laws.Fuel.{Fuel, quotient-halves, fuel-reduce}
-use Rattle.search.proofs.Laws.Faithful.{Faithful, FaithfulAt, faithful-operation}
+use Rattle.search.proofs.Laws.Faithful.{FaithfulAt, faithful-operation}
 use Rattle.search.proofs.Laws.Refuting.{RefutesTable}
 
 pub record Kept (C : Table) (s : State) : Type 0 where

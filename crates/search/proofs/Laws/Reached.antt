@@ -5,9 +5,9 @@
 --     after-enough    after 8,076 steps the search is finished
 --
 -- Assumes nothing.
-use mathlib.Core.Path.{_≡_, refl, ap, subst, _∙_}
+use mathlib.Core.Path.{_≡_, refl, ap, subst}
 use mathlib.Core.Bool.{Bool, true, false}
-use Prim.Native.Nat.{ℕ, zero, suc, _+_, _*_, _<_, _≤_}
+use Prim.Native.Nat.{ℕ, zero, suc}
 use native.Mathlib.Omega.{arith}
 use borrow.Author.Tests.{eqb-true, eqb-false}
 use lib.Dec.{eqb}
@@ -17,7 +17,6 @@ use Rattle.search.specs.Run.{isUnfinished, nextBy, after}
 use Rattle.search.specs.Code.{Sound}
 use Rattle.search.proofs.Laws.Run.{after-count, after-sound}
 use Rattle.search.proofs.Laws.Columns.{Table}
-use Rattle.search.proofs.Laws.Fuel.{Fuel}
 use Rattle.search.proofs.Laws.Kept.{Kept, Right, reduce-right}
 use Rattle.search.proofs.Laws.Close.{close-right}
 

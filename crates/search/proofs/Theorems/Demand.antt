@@ -3,8 +3,8 @@
 --     demand    all of it
 --
 -- Assumes nothing.
-use mathlib.Core.Path.{_≡_, refl, sym, ap, ap₂, subst, subst⁻¹, _∙_}
-use mathlib.Core.Bool.{Bool, true, false, _&&_}
+use mathlib.Core.Path.{_≡_, sym, ap, ap₂, subst, subst⁻¹, _∙_}
+use mathlib.Core.Bool.{Bool, true, _&&_}
 use mathlib.Core.List.{List}
 use Prim.Native.Nat.{ℕ, _+_}
 use borrow.Author.Tests.{eq-eqb}
@@ -17,7 +17,7 @@ use Rattle.problem.specs.WellFormed.{WellFormed}
 use Rattle.checker.specs.Refutation.{refusal}
 use Rattle.search.specs.State.{State, Outcome, Refuted, Solved, TooLarge}
 use Rattle.search.specs.Run.{isUnfinished}
-use Rattle.search.specs.Answer.{replyOf, isRefuted, isSolved, writtenBy, writtenIf, searched, searchRefusal, searchReply, searchVector, searchPoint}
+use Rattle.search.specs.Answer.{replyOf, isRefuted, isSolved, writtenBy, writtenIf, searched, searchRefusal, searchReply}
 use Rattle.search.specs.Promises.{saysUnfinished, Says, Demand}
 use Rattle.search.specs.declared.Reply.{Reply}
 use Rattle.search.proofs.Laws.Refusal.{well-formed-none, written-none}

@@ -7,9 +7,9 @@
 --
 -- Assumes nothing.
 use mathlib.Core.Path.{_≡_, refl, sym, ap, subst, _∙_}
-use mathlib.Core.Bool.{true, false, true≢false}
+use mathlib.Core.Bool.{false, true≢false}
 use mathlib.Core.List.{List}
-use Prim.Native.Nat.{ℕ, _+_, _<_, _≤_}
+use Prim.Native.Nat.{ℕ, _+_, _≤_}
 use lib.IntN.{ℤ, natAbs}
 use Rattle.integers.specs.Run.{at, tabulate}
 use Rattle.integers.proofs.Laws.Order.{positive-lt}
@@ -25,7 +25,7 @@ use Rattle.checker.proofs.Theorems.Refuted.{refuted}
 use Rattle.search.specs.State.{Given, State, Outcome, Unfinished, TooLarge, Refuted, Solved, upperCell, givenOf, start}
 use Rattle.search.specs.Run.{isUnfinished}
 use Rattle.search.specs.Answer.{searched}
-use Rattle.search.specs.Promises.{NoPoint, SomePoint, Decided}
+use Rattle.search.specs.Promises.{NoPoint, Decided}
 use Rattle.search.proofs.Laws.Run.{after-given}
 use Rattle.search.proofs.Laws.Start.{start-sound}
 use Rattle.search.proofs.Laws.Refuting.{RefutesTable}
