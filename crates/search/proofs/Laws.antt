@@ -12,6 +12,12 @@
 --     Fuel      a reduction less than halves an entry, and what that leaves for a row
 --     Faithful  table, pivots and z stay faithful to the rows that were entered
 --     Back      the numerators, going back over the pivot columns
+--     Refuting  the vector of a row that refutes does refute
+--     Kept      what holds of every state that is reached, and that Reduce keeps it
+--     Close     Close keeps it, or ends with an answer that is right
+--     Reached   many steps keep it, and 8,076 of them are enough
+--     Entered   what holds at the start, and what an answer about the table says of the rows
+--     Exceeds   too large is said exactly when a number is above its bound
 pub mod Table
 pub mod Scan
 pub mod Sound

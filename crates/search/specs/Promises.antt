@@ -92,12 +92,12 @@ closedVector s = vectorOf s (closedTable s) (closedEntry s)
 -- "a magnitude above 268,435,456 (2^28) into any cell, z or place of the point, or above 1,000,000 into any numerator or q at any
 -- moment": the vector stays as it is once a number in it is out of range.
 pub data Exceeds (s : State) : Type 0 where
-  a-cell : (secondColumn s ≡ firstColumn s → ⊥) → (i : ℕ) → i < 36 → bound < natAbs (reducedCell s i) → Exceeds s
-  a-z : secondColumn s ≡ firstColumn s → closedEntry s ∣ℤ closedResidual s → (closedEntry s ≡ pos 0 → ⊥) → bound < natAbs (closedZ s) → Exceeds s
-  a-place : secondColumn s ≡ firstColumn s → closedEntry s ∣ℤ closedResidual s → s .row + 1 ≡ s .given .m →
+  large-cell : (secondColumn s ≡ firstColumn s → ⊥) → (i : ℕ) → i < 36 → bound < natAbs (reducedCell s i) → Exceeds s
+  large-z : secondColumn s ≡ firstColumn s → closedEntry s ∣ℤ closedResidual s → (closedEntry s ≡ pos 0 → ⊥) → bound < natAbs (closedZ s) → Exceeds s
+  large-place : secondColumn s ≡ firstColumn s → closedEntry s ∣ℤ closedResidual s → s .row + 1 ≡ s .given .m →
       (k : ℕ) → k < s .given .n → bound < natAbs (placeOf (closedNext s) k) → Exceeds s
-  a-numerator : secondColumn s ≡ firstColumn s → (closedEntry s ∣ℤ closedResidual s → ⊥) → (i : ℕ) → i < 12 → million < natAbs (at (closedVector s .p) i) → Exceeds s
-  a-denominator : secondColumn s ≡ firstColumn s → (closedEntry s ∣ℤ closedResidual s → ⊥) → million < natAbs (closedVector s .q) → Exceeds s
+  large-numerator : secondColumn s ≡ firstColumn s → (closedEntry s ∣ℤ closedResidual s → ⊥) → (i : ℕ) → i < 12 → million < natAbs (at (closedVector s .p) i) → Exceeds s
+  large-denominator : secondColumn s ≡ firstColumn s → (closedEntry s ∣ℤ closedResidual s → ⊥) → million < natAbs (closedVector s .q) → Exceeds s
 
 pub record Overflows (s : State) (budget : ℕ) : Type 0 where
   pub k : ℕ
@@ -137,6 +137,6 @@ module _ (n ma mb : ℕ) (a b vector point : List ℤ) where
     -- solved: what the point run then holds meets all rows
     pub solved-meets : (budget : ℕ) → Says (answer budget) Solved → Meets n rows (at (pointRun budget))
     -- finished and not too large: refuted exactly when no point meets all rows, and otherwise solved
-    pub decided : (budget : ℕ) → saysUnfinished (answer budget) ≡ false → (Says (answer budget) TooLarge → ⊥) → Decided n rows ((q : ℤ) × Says (answer budget) (Refuted q)) (Says (answer budget) Solved)
+    pub exactly : (budget : ℕ) → saysUnfinished (answer budget) ≡ false → (Says (answer budget) TooLarge → ⊥) → Decided n rows ((q : ℤ) × Says (answer budget) (Refuted q)) (Says (answer budget) Solved)
     -- too large exactly when some step within the budget would put a number above its bound
     pub too-large : (budget : ℕ) → (Says (answer budget) TooLarge → Overflows (start n rows) budget) × (Overflows (start n rows) budget → Says (answer budget) TooLarge)

@@ -22,7 +22,7 @@ use Rattle.search.specs.State.{Given, State, Outcome, Unfinished, TooLar
 use Rattle.search.specs.Step.{firstColumn, secondColumn, tooLarge, quotient, reduceBy, reduceOf, placeOf, solveBy, lastBy, closed, passed, placed, placeBy, goOnBy, refuteBy, closeBy, closeOf, stepBy, stepOf}
 use Rattle.search.specs.Run.{isUnfinished}
 use Rattle.search.specs.Answer.{isRefuted, isSolved}
-use Rattle.search.specs.Promises.{reducedCell, closedTable, closedEntry, closedResidual, closedZ, closedNext, closedVector, Exceeds, a-cell, a-z, a-place, a-numerator, a-denominator}
+use Rattle.search.specs.Promises.{reducedCell, closedTable, closedEntry, closedResidual, closedZ, closedNext, closedVector, Exceeds, large-cell, large-z, large-place, large-numerator, large-denominator}
 use Rattle.search.proofs.Laws.Vector.{OutOfRange, numerator-out, denominator-out, vector-out, out-vector}
 
 above : (B : ℕ) (z : ℤ) → within B z ≡ false → B < natAbs z
@@ -93,11 +93,11 @@ module _ (s : State) where
       where
         go : (b : Bool) → subtractionFits (s .cells) first second q ≡ b → reduceBy b s first second q .outcome ≡ TooLarge → Exceeds s
         go true p h = absurd (not-large (s .outcome) goes h)
-        go false p h = let r = all-place 36 (λ i. within bound (reducedCell s i)) p in a-cell apart (r .0) (r .1) (above bound (reducedCell s (r .0)) (r .2))
+        go false p h = let r = all-place 36 (λ i. within bound (reducedCell s i)) p in large-cell apart (r .0) (r .1) (above bound (reducedCell s (r .0)) (r .2))
 
     module _ (alone : second ≡ first) where
       place-exceeds : closedEntry s ∣ℤ closedResidual s → (next : State) → closedNext s ≡ next → next .row ≡ s .row + 1 → next .given ≡ s .given → LastExceeds next → Exceeds s
-      place-exceeds d next e row given x = a-place alone d
+      place-exceeds d next e row given x = large-place alone d
           (sym row ∙ x .last ∙ ap (λ (g : Given). g .m) given)
           (x .k)
           (subst (λ (g : Given). x .k < g .n) given (x .in-point))
@@ -110,7 +110,7 @@ module _ (s : State) where
         where
           go : (b : Bool) → within bound (closedZ s) ≡ b → placeBy b s (closedTable s) (closedZ s) .outcome ≡ TooLarge → Exceeds s
           go true p h = place-exceeds d (placed s (closedTable s) (closedZ s)) (next-is false z) refl refl (closed-exceeds s (placed s (closedTable s) (closedZ s)) goes h)
-          go false p h = a-z alone d (decides-no (by-zero (closedEntry s)) z) (above bound (closedZ s) p)
+          go false p h = large-z alone d (decides-no (by-zero (closedEntry s)) z) (above bound (closedZ s) p)
 
       refute-exceeds : (closedEntry s ∣ℤ closedResidual s → ⊥) → (b : Bool) → closedVector s .ok ≡ b → refuteBy b s (closedTable s) (closedVector s) .outcome ≡ TooLarge → Exceeds s
       unfolding refuteBy
@@ -118,8 +118,8 @@ module _ (s : State) where
       refute-exceeds d false p h = out (vector-out s (closedTable s) (closedEntry s) p)
         where
           out : OutOfRange (closedVector s) → Exceeds s
-          out (numerator-out i l g) = a-numerator alone d i l g
-          out (denominator-out g) = a-denominator alone d g
+          out (numerator-out i l g) = large-numerator alone d i l g
+          out (denominator-out g) = large-denominator alone d g
 
       close-exceeds : closeOf s first .outcome ≡ TooLarge → Exceeds s
       unfolding closeOf closeBy
@@ -169,14 +169,14 @@ module _ (s : State) where
 
   pub exceeds-step : Exceeds s → stepOf s .outcome ≡ TooLarge
   unfolding stepOf stepBy reduceOf reduceBy goOnBy placeBy tooLarge
-  exceeds-step (a-cell apart i l g) =
+  exceeds-step (large-cell apart i l g) =
       ap (λ (b : Bool). stepBy b s first second .outcome) (ne-eqb second first apart)
       ∙ ap (λ (b : Bool). reduceBy b s first second q .outcome) (all-false 36 (λ i. within bound (reducedCell s i)) i l (outside bound (reducedCell s i) g))
-  exceeds-step (a-z alone d some g) =
+  exceeds-step (large-z alone d some g) =
       ap (λ (x : State). x .outcome) (goes-on alone d false (decides-false (by-zero (closedEntry s)) some))
       ∙ ap (λ (b : Bool). placeBy b s (closedTable s) (closedZ s) .outcome) (outside bound (closedZ s) g)
-  exceeds-step (a-place alone d e k l g) =
+  exceeds-step (large-place alone d e k l g) =
       ap (λ (x : State). x .outcome) (goes-on alone d (isZero (closedEntry s)) refl)
       ∙ places (isZero (closedEntry s)) (last-place (isZero (closedEntry s)) refl e k l g)
-  exceeds-step (a-numerator alone d i l g) = refutes alone d (numerator-out i l g)
-  exceeds-step (a-denominator alone d g) = refutes alone d (denominator-out g)
+  exceeds-step (large-numerator alone d i l g) = refutes alone d (numerator-out i l g)
+  exceeds-step (large-denominator alone d g) = refutes alone d (denominator-out g)

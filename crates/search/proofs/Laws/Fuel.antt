@@ -3,8 +3,8 @@
 --
 --     quotient-halves    what a reduction leaves of an entry is less than half of it; all that is asked of the quotient
 --     total n f          f 0 + .. + f (n - 1), of naturals
---     Fuel v row steps   each column j has `left j` reductions left in the current row, whose entries are v; the steps so far and all that
---                        are left are at most 673 for each earlier row and 672 for this one
+--     Fuel v row steps   column j needs at most `left j` reductions more in the current row, whose entries are v, since |v j| + 2 is at
+--                        most 2^(left j + 1); the steps so far and those are at most 673 for each earlier row and 672 for this one
 --     fuel-start         at most 673 steps for each earlier row, entries within 2^28: there is fuel
 --     fuel-reduce        after a step that less than halves one entry
 --     fuel-close         after a step to the next row

@@ -67,14 +67,14 @@ module _ (s : State) where
     pub k : ℕ
     pub within-b : k < b
     pub unfinished : goes k ≡ true
-    pub ends : stepOf (after k s) ≡ after b s
+    pub ends : after (k + 1) s ≡ after b s
 
   pub after-last : goes 0 ≡ true → (b : ℕ) → goes b ≡ false → LastStep b
   after-last u zero f = absurd (true≢false (sym u ∙ f))
   after-last u (suc b) f = go (goes b) refl (after-last u b)
     where
       go : (t : Bool) → goes b ≡ t → (goes b ≡ false → LastStep b) → LastStep (suc b)
-      go true e earlier = record { k = b; within-b = omega arith; unfinished = e; ends = sym (goes-on b e) }
+      go true e earlier = record { k = b; within-b = omega arith; unfinished = e; ends = ap (λ (k : ℕ). after k s) (add-one b) }
       go false e earlier = let l = earlier e in let h = l .within-b in record { k = l .k; within-b = omega arith; unfinished = l .unfinished; ends = l .ends ∙ sym (stops b e) }
 
   -- what is unfinished after b + 1 steps was so after b

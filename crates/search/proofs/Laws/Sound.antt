@@ -2,9 +2,9 @@
 --
 --     Close      close-bounded  close-length  close-kept     the closed table: bounded and as long again, its other columns kept
 --                close-pivot       a column that is not 0 in the row becomes the pivot, above 0
---     Columns    first-is  second-is  first-in  first-zero   the two columns that a step takes; an entry 0 in the first: it is column r
+--     Columns    first-is  second-is  first-in               what the two columns are that a step takes
 --                count-low  row-low                          the number of pivots and the row stay below 12
---                entry-positive    the entry of a closed row, where it is not 0
+--                entry-positive    the entry of a closed row is above 0, where it is not 0
 --     Step       step-onward       a step counts as one and keeps what is given
 --                step-reducible    what Reduce asks, where there is a second column
 --                step-closable     what Close asks
@@ -206,7 +206,7 @@ module _ (s : State) (h : Sound s) where
   row-low = let r = h .row-in in let m = h .few-m in omega arith
 
   -- an entry 0 in the first column says that all are 0, and the first column is that of the next pivot
-  pub first-zero : row (firstColumn s) ≡ pos 0 → firstColumn s ≡ s .count
+  first-zero : row (firstColumn s) ≡ pos 0 → firstColumn s ≡ s .count
   first-zero = least-zero row (s .count) span
 
   pub step-reducible : s .steps < lastCount → (secondColumn s ≡ firstColumn s → ⊥) → Reducible s (firstColumn s) (secondColumn s)

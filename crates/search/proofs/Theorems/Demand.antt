@@ -24,7 +24,7 @@ use Rattle.search.proofs.Laws.Refusal.{well-formed-none, written-none}
 use Rattle.search.proofs.Theorems.Unfinished.{unfinished-is, unfinished-writes}
 use Rattle.search.proofs.Theorems.Larger.{reply-larger, runs-larger}
 use Rattle.search.proofs.Theorems.Enough.{enough}
-use Rattle.search.proofs.Theorems.Right.{refuted-accepted, refuted-none, solved-meets, decided}
+use Rattle.search.proofs.Theorems.Right.{refuted-accepted, refuted-none, solved-meets, exactly}
 use Rattle.search.proofs.Theorems.TooLarge.{too-large-is}
 
 module _ (n ma mb : ℕ) (a b vector point : List ℤ) (w : WellFormed n ma mb a b) (vector-long : length vector ≡ ma + mb) (point-long : length point ≡ n) where
@@ -73,8 +73,8 @@ module _ (n ma mb : ℕ) (a b vector point : List ℤ) (w : WellFormed n ma mb a
     solved-meets = λ budget h.
         let e = says budget Solved h in
         subst⁻¹ (λ (x : List ℤ). Meets n (rowsOf n ma mb a b) (at x)) (run budget (isSolved (final budget .outcome)) point n (ap isSolved e) point-long) (solved-meets n ma mb a b w budget e);
-    decided = λ budget f fits.
-        let d = decided n ma mb a b w budget (sym (unfinished-same budget) ∙ f) (λ e. fits (said budget TooLarge e)) in
+    exactly = λ budget f fits.
+        let d = exactly n ma mb a b w budget (sym (unfinished-same budget) ∙ f) (λ e. fits (said budget TooLarge e)) in
         record {
           refuted-none = λ r. d .refuted-none (r .0, says budget (Refuted (r .0)) (r .1));
           none-refuted = λ h. let r = d .none-refuted h in (r .0, said budget (Refuted (r .0)) (r .1));

@@ -3,7 +3,7 @@
 --     refuted-accepted    refuted with q: the checker accepts the numerators that are written
 --     refuted-none        so no point meets both sides
 --     solved-meets        solved: the point that is written meets all rows
---     decided             finished and not too large: refuted exactly when no point meets all rows, solved exactly when some point does
+--     exactly             finished and not too large: refuted exactly when no point meets all rows, solved exactly when some point does
 --
 -- Assumes nothing.
 use mathlib.Core.Path.{_≡_, refl, sym, ap, subst, _∙_}
@@ -79,8 +79,8 @@ module _ (n ma mb : ℕ) (a b : List ℤ) (w : WellFormed n ma mb a b) (budget :
   none : (q : ℤ) → final .outcome ≡ Refuted q → NoPoint n R
   none q e X m = let s = both-meets n (sideOf n ma a) (sideOf n mb b) X m in refuted-none q e X (s .0) (s .1)
 
-  pub decided : isUnfinished (final .outcome) ≡ false → (final .outcome ≡ TooLarge → ⊥) → Decided n R ((q : ℤ) × (final .outcome ≡ Refuted q)) (final .outcome ≡ Solved)
-  decided finished fits = record {
+  pub exactly : isUnfinished (final .outcome) ≡ false → (final .outcome ≡ TooLarge → ⊥) → Decided n R ((q : ℤ) × (final .outcome ≡ Refuted q)) (final .outcome ≡ Solved)
+  exactly finished fits = record {
     refuted-none = λ r. none (r .0) (r .1);
     none-refuted = λ h. way (final .outcome) refl (λ r. r) (λ e. absurd (h (at point) (solved-meets e)));
     solved-some = λ e. (at point, solved-meets e);
