@@ -3,9 +3,13 @@
 --     Outnumber s budget    the steps from s outnumber the budget: after no number of steps within it the search is finished
 --     saysUnfinished        whether an answer of `search` is "unfinished"
 --     Says r o              the answer r of `search` is no refusal, and its outcome is o
+--     Exactly P Q           P holds exactly when Q does
 --     mostSteps             8,076
 --     NoPoint, SomePoint    no point meets the rows; some point does
 --     Decided               refuted exactly when no point meets the rows, solved exactly when some point does
+--     reducedCell           what Reduce puts into its second column
+--     closedTable, ..       what Close puts: table, entry, residual, z, next state, vector
+--     Closes, GoesOn        the next step of s is Close; its entry divides the residual
 --     Exceeds s             the next step of s would put a number above its bound; one case for each place
 --     Overflows s budget    so does some step from s within the budget, before which the search is unfinished
 --     Demand                demand 3 of one call of `search`, for every budget
@@ -30,6 +34,9 @@ use Rattle.search.specs.Run.{isUnfinished, after}
 use Rattle.search.specs.Answer.{searchReply, searchVector, searchPoint}
 use Rattle.search.specs.declared.Reply.{Reply}
 use Rattle.search.specs.declared.Reply.the-variants.{Refused, Answered}
+
+abbrev pub Exactly : Type 0 → Type 0 → Type 0
+Exactly P Q = (P → Q) × (Q → P)
 
 -- Unfinished -----------------------------------------------------------------------------------------------------------
 
@@ -57,10 +64,8 @@ abbrev pub SomePoint : ℕ → Rows → Type 0
 SomePoint n R = (X : ℕ → ℤ) × Meets n R X
 
 pub record Decided (n : ℕ) (R : Rows) (refuted solved : Type 0) : Type 0 where
-  pub refuted-none : refuted → NoPoint n R
-  pub none-refuted : NoPoint n R → refuted
-  pub solved-some : solved → SomePoint n R
-  pub some-solved : SomePoint n R → solved
+  pub refuted-is : Exactly refuted (NoPoint n R)
+  pub solved-is : Exactly solved (SomePoint n R)
 
 -- Too large ------------------------------------------------------------------------------------------------------------
 
@@ -70,7 +75,7 @@ reducedCell s i =
     let q = quotient (cell (s .cells) (s .row) (secondColumn s)) (cell (s .cells) (s .row) (firstColumn s)) in
     lessTimes (cell (s .cells) i (secondColumn s)) q (cell (s .cells) i (firstColumn s))
 
--- the table after the swap and negation of Close, the entry in column r and the residual, the z, the next state, and the vector
+-- of Close: the table after its swap and negation, the entry in column r, the residual, the z, the next state, and the vector
 abbrev pub closedTable : State → List ℤ
 closedTable s = closeTable (s .cells) (s .row) (firstColumn s) (s .count)
 
@@ -89,15 +94,20 @@ closedNext s = cond (isZero (closedEntry s)) (passed s (closedTable s)) (placed 
 abbrev pub closedVector : State → Vector
 closedVector s = vectorOf s (closedTable s) (closedEntry s)
 
+abbrev pub Closes : State → Type 0
+Closes s = secondColumn s ≡ firstColumn s
+
+abbrev pub GoesOn : State → Type 0
+GoesOn s = closedEntry s ∣ℤ closedResidual s
+
 -- "a magnitude above 268,435,456 (2^28) into any cell, z or place of the point, or above 1,000,000 into any numerator or q at any
 -- moment": the vector stays as it is once a number in it is out of range.
 pub data Exceeds (s : State) : Type 0 where
-  large-cell : (secondColumn s ≡ firstColumn s → ⊥) → (i : ℕ) → i < 36 → bound < natAbs (reducedCell s i) → Exceeds s
-  large-z : secondColumn s ≡ firstColumn s → closedEntry s ∣ℤ closedResidual s → (closedEntry s ≡ pos 0 → ⊥) → bound < natAbs (closedZ s) → Exceeds s
-  large-place : secondColumn s ≡ firstColumn s → closedEntry s ∣ℤ closedResidual s → s .row + 1 ≡ s .given .m →
-      (k : ℕ) → k < s .given .n → bound < natAbs (placeOf (closedNext s) k) → Exceeds s
-  large-numerator : secondColumn s ≡ firstColumn s → (closedEntry s ∣ℤ closedResidual s → ⊥) → (i : ℕ) → i < 12 → million < natAbs (at (closedVector s .p) i) → Exceeds s
-  large-denominator : secondColumn s ≡ firstColumn s → (closedEntry s ∣ℤ closedResidual s → ⊥) → million < natAbs (closedVector s .q) → Exceeds s
+  large-cell : (Closes s → ⊥) → (i : ℕ) → i < 36 → bound < natAbs (reducedCell s i) → Exceeds s
+  large-z : Closes s → GoesOn s → (closedEntry s ≡ pos 0 → ⊥) → bound < natAbs (closedZ s) → Exceeds s
+  large-place : Closes s → GoesOn s → s .row + 1 ≡ s .given .m → (k : ℕ) → k < s .given .n → bound < natAbs (placeOf (closedNext s) k) → Exceeds s
+  large-numerator : Closes s → (GoesOn s → ⊥) → (i : ℕ) → i < 12 → million < natAbs (at (closedVector s .p) i) → Exceeds s
+  large-denominator : Closes s → (GoesOn s → ⊥) → million < natAbs (closedVector s .q) → Exceeds s
 
 pub record Overflows (s : State) (budget : ℕ) : Type 0 where
   pub k : ℕ
@@ -124,7 +134,7 @@ module _ (n ma mb : ℕ) (a b vector point : List ℤ) where
 
   pub record Demand : Type 0 where
     -- it says "unfinished" exactly when the steps outnumber the budget
-    pub unfinished : (budget : ℕ) → (saysUnfinished (answer budget) ≡ true → Outnumber (start n rows) budget) × (Outnumber (start n rows) budget → saysUnfinished (answer budget) ≡ true)
+    pub unfinished : (budget : ℕ) → Exactly (saysUnfinished (answer budget) ≡ true) (Outnumber (start n rows) budget)
     -- and then hands out no vector and no point
     pub unwritten : (budget : ℕ) → saysUnfinished (answer budget) ≡ true → (vectorRun budget ≡ vector) × (pointRun budget ≡ point)
     -- once it finishes under some budget, every larger budget gives the same answer and count, and the same runs
@@ -139,4 +149,4 @@ module _ (n ma mb : ℕ) (a b vector point : List ℤ) where
     -- finished and not too large: refuted exactly when no point meets all rows, and otherwise solved
     pub exactly : (budget : ℕ) → saysUnfinished (answer budget) ≡ false → (Says (answer budget) TooLarge → ⊥) → Decided n rows ((q : ℤ) × Says (answer budget) (Refuted q)) (Says (answer budget) Solved)
     -- too large exactly when some step within the budget would put a number above its bound
-    pub too-large : (budget : ℕ) → (Says (answer budget) TooLarge → Overflows (start n rows) budget) × (Overflows (start n rows) budget → Says (answer budget) TooLarge)
+    pub too-large : (budget : ℕ) → Exactly (Says (answer budget) TooLarge) (Overflows (start n rows) budget)

@@ -13,7 +13,7 @@ use borrow.Author.Tests.{eqb-true, eqb-false, eq-eqb, ne-eqb, leb-false}
 use lib.Dec.{eqb}
 use lib.IntN.{ℤ, natAbs}
 use Rattle.integers.specs.Range.{isZero, within}
-use Rattle.integers.specs.Divisibility.{_∣ℤ_, divides}
+use Rattle.integers.specs.Divisibility.{divides}
 use Rattle.integers.specs.Below.{allBelow}
 use Rattle.integers.proofs.Laws.Below.{all-place, all-false}
 use Rattle.integers.proofs.Laws.Decide.{decides-no, decides-false, by-zero, by-within, by-divides}
@@ -22,7 +22,7 @@ use Rattle.search.specs.State.{Given, State, Outcome, Unfinished, TooLar
 use Rattle.search.specs.Step.{firstColumn, secondColumn, tooLarge, quotient, reduceBy, reduceOf, placeOf, solveBy, lastBy, closed, passed, placed, placeBy, goOnBy, refuteBy, closeBy, closeOf, stepBy, stepOf}
 use Rattle.search.specs.Run.{isUnfinished}
 use Rattle.search.specs.Answer.{isRefuted, isSolved}
-use Rattle.search.specs.Promises.{reducedCell, closedTable, closedEntry, closedResidual, closedZ, closedNext, closedVector, Exceeds, large-cell, large-z, large-place, large-numerator, large-denominator}
+use Rattle.search.specs.Promises.{reducedCell, closedTable, closedEntry, closedResidual, closedZ, closedNext, closedVector, Closes, GoesOn, Exceeds, large-cell, large-z, large-place, large-numerator, large-denominator}
 use Rattle.search.proofs.Laws.Vector.{OutOfRange, numerator-out, denominator-out, vector-out, out-vector}
 
 above : (B : ℕ) (z : ℤ) → within B z ≡ false → B < natAbs z
@@ -87,7 +87,7 @@ module _ (s : State) where
   next-is b z = ap (λ (b : Bool). cond b (passed s (closedTable s)) (placed s (closedTable s) (closedZ s))) z
 
   module _ (goes : s .outcome ≡ Unfinished) where
-    reduce-exceeds : (second ≡ first → ⊥) → reduceOf s first second .outcome ≡ TooLarge → Exceeds s
+    reduce-exceeds : (Closes s → ⊥) → reduceOf s first second .outcome ≡ TooLarge → Exceeds s
     unfolding reduceOf reduceBy
     reduce-exceeds apart = go (subtractionFits (s .cells) first second q) refl
       where
@@ -95,15 +95,15 @@ module _ (s : State) where
         go true p h = absurd (not-large (s .outcome) goes h)
         go false p h = let r = all-place 36 (λ i. within bound (reducedCell s i)) p in large-cell apart (r .0) (r .1) (above bound (reducedCell s (r .0)) (r .2))
 
-    module _ (alone : second ≡ first) where
-      place-exceeds : closedEntry s ∣ℤ closedResidual s → (next : State) → closedNext s ≡ next → next .row ≡ s .row + 1 → next .given ≡ s .given → LastExceeds next → Exceeds s
+    module _ (alone : Closes s) where
+      place-exceeds : GoesOn s → (next : State) → closedNext s ≡ next → next .row ≡ s .row + 1 → next .given ≡ s .given → LastExceeds next → Exceeds s
       place-exceeds d next e row given x = large-place alone d
           (sym row ∙ x .last ∙ ap (λ (g : Given). g .m) given)
           (x .k)
           (subst (λ (g : Given). x .k < g .n) given (x .in-point))
           (subst⁻¹ (λ (n : State). bound < natAbs (placeOf n (x .k))) e (x .large))
 
-      go-on-exceeds : closedEntry s ∣ℤ closedResidual s → (b : Bool) → isZero (closedEntry s) ≡ b → goOnBy b s (closedTable s) (closedEntry s) .outcome ≡ TooLarge → Exceeds s
+      go-on-exceeds : GoesOn s → (b : Bool) → isZero (closedEntry s) ≡ b → goOnBy b s (closedTable s) (closedEntry s) .outcome ≡ TooLarge → Exceeds s
       unfolding goOnBy placeBy passed placed
       go-on-exceeds d true z h = place-exceeds d (passed s (closedTable s)) (next-is true z) refl refl (closed-exceeds s (passed s (closedTable s)) goes h)
       go-on-exceeds d false z h = go (within bound (closedZ s)) refl h
@@ -112,7 +112,7 @@ module _ (s : State) where
           go true p h = place-exceeds d (placed s (closedTable s) (closedZ s)) (next-is false z) refl refl (closed-exceeds s (placed s (closedTable s) (closedZ s)) goes h)
           go false p h = large-z alone d (decides-no (by-zero (closedEntry s)) z) (above bound (closedZ s) p)
 
-      refute-exceeds : (closedEntry s ∣ℤ closedResidual s → ⊥) → (b : Bool) → closedVector s .ok ≡ b → refuteBy b s (closedTable s) (closedVector s) .outcome ≡ TooLarge → Exceeds s
+      refute-exceeds : (GoesOn s → ⊥) → (b : Bool) → closedVector s .ok ≡ b → refuteBy b s (closedTable s) (closedVector s) .outcome ≡ TooLarge → Exceeds s
       unfolding refuteBy
       refute-exceeds d true p h = absurd (true≢false (ap isRefuted h))
       refute-exceeds d false p h = out (vector-out s (closedTable s) (closedEntry s) p)
@@ -138,15 +138,15 @@ module _ (s : State) where
         way false e = reduce-exceeds (eqb-false second first e)
 
   -- a step that closes, by whether the entry divides the residual
-  closes : second ≡ first → (b : Bool) → divides (closedEntry s) (closedResidual s) ≡ b → stepOf s ≡ closeBy b s (closedTable s) (closedEntry s)
+  closes : Closes s → (b : Bool) → divides (closedEntry s) (closedResidual s) ≡ b → stepOf s ≡ closeBy b s (closedTable s) (closedEntry s)
   unfolding stepOf stepBy closeOf
   closes alone b d = ap (λ (x : Bool). stepBy x s first second) (eq-eqb second first alone) ∙ ap (λ (x : Bool). closeBy x s (closedTable s) (closedEntry s)) d
 
-  goes-on : second ≡ first → closedEntry s ∣ℤ closedResidual s → (b : Bool) → isZero (closedEntry s) ≡ b → stepOf s ≡ goOnBy b s (closedTable s) (closedEntry s)
+  goes-on : Closes s → GoesOn s → (b : Bool) → isZero (closedEntry s) ≡ b → stepOf s ≡ goOnBy b s (closedTable s) (closedEntry s)
   unfolding closeBy
   goes-on alone d b z = closes alone true (by-divides (closedEntry s) (closedResidual s) .is d) ∙ ap (λ (x : Bool). goOnBy x s (closedTable s) (closedEntry s)) z
 
-  refutes : second ≡ first → (closedEntry s ∣ℤ closedResidual s → ⊥) → OutOfRange (closedVector s) → stepOf s .outcome ≡ TooLarge
+  refutes : Closes s → (GoesOn s → ⊥) → OutOfRange (closedVector s) → stepOf s .outcome ≡ TooLarge
   unfolding closeBy refuteBy tooLarge
   refutes alone d out = ap (λ (x : State). x .outcome) (closes alone false (decides-false (by-divides (closedEntry s) (closedResidual s)) d))
       ∙ ap (λ (b : Bool). refuteBy b s (closedTable s) (closedVector s) .outcome) (out-vector s (closedTable s) (closedEntry s) out)

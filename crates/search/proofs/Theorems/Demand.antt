@@ -76,10 +76,8 @@ module _ (n ma mb : ℕ) (a b vector point : List ℤ) (w : WellFormed n ma mb a
     exactly = λ budget f fits.
         let d = exactly n ma mb a b w budget (sym (unfinished-same budget) ∙ f) (λ e. fits (said budget TooLarge e)) in
         record {
-          refuted-none = λ r. d .refuted-none (r .0, says budget (Refuted (r .0)) (r .1));
-          none-refuted = λ h. let r = d .none-refuted h in (r .0, said budget (Refuted (r .0)) (r .1));
-          solved-some = λ h. d .solved-some (says budget Solved h);
-          some-solved = λ x. said budget Solved (d .some-solved x);
+          refuted-is = ((λ r. d .refuted-is .0 (r .0, says budget (Refuted (r .0)) (r .1))), (λ h. let r = d .refuted-is .1 h in (r .0, said budget (Refuted (r .0)) (r .1))));
+          solved-is = ((λ h. d .solved-is .0 (says budget Solved h)), (λ x. said budget Solved (d .solved-is .1 x)));
         };
     too-large = λ budget. let t = too-large-is n ma mb a b budget in ((λ h. t .0 (says budget TooLarge h)), (λ o. said budget TooLarge (t .1 o)));
   }

@@ -81,10 +81,8 @@ module _ (n ma mb : ℕ) (a b : List ℤ) (w : WellFormed n ma mb a b) (budget :
 
   pub exactly : isUnfinished (final .outcome) ≡ false → (final .outcome ≡ TooLarge → ⊥) → Decided n R ((q : ℤ) × (final .outcome ≡ Refuted q)) (final .outcome ≡ Solved)
   exactly finished fits = record {
-    refuted-none = λ r. none (r .0) (r .1);
-    none-refuted = λ h. way (final .outcome) refl (λ r. r) (λ e. absurd (h (at point) (solved-meets e)));
-    solved-some = λ e. (at point, solved-meets e);
-    some-solved = λ x. way (final .outcome) refl (λ r. absurd (none (r .0) (r .1) (x .0) (x .1))) (λ e. e);
+    refuted-is = ((λ r. none (r .0) (r .1)), (λ h. way (final .outcome) refl (λ r. r) (λ e. absurd (h (at point) (solved-meets e)))));
+    solved-is = ((λ e. (at point, solved-meets e)), (λ x. way (final .outcome) refl (λ r. absurd (none (r .0) (r .1) (x .0) (x .1))) (λ e. e)));
   }
     where
       -- it is refuted or solved

@@ -14,7 +14,7 @@ use Rattle.problem.specs.Rows.{rowsOf}
 use Rattle.search.specs.State.{State, Outcome, TooLarge, start}
 use Rattle.search.specs.Run.{isUnfinished}
 use Rattle.search.specs.Answer.{searched}
-use Rattle.search.specs.Promises.{Exceeds, Overflows}
+use Rattle.search.specs.Promises.{Exactly, Exceeds, Overflows}
 use Rattle.search.proofs.Laws.Run.{after-none, after-more, after-stops, after-last}
 use Rattle.search.proofs.Laws.Exceeds.{is-unfinished, step-exceeds, exceeds-step}
 
@@ -25,8 +25,7 @@ module _ (n ma mb : ℕ) (a b : List ℤ) where
   abbrev outcomeAfter : ℕ → Outcome
   outcomeAfter budget = searched n ma mb a b budget .outcome
 
-  pub too-large-next : (budget : ℕ) → isUnfinished (outcomeAfter budget) ≡ true →
-      (outcomeAfter (budget + 1) ≡ TooLarge → Exceeds (searched n ma mb a b budget)) × (Exceeds (searched n ma mb a b budget) → outcomeAfter (budget + 1) ≡ TooLarge)
+  pub too-large-next : (budget : ℕ) → isUnfinished (outcomeAfter budget) ≡ true → Exactly (outcomeAfter (budget + 1) ≡ TooLarge) (Exceeds (searched n ma mb a b budget))
   too-large-next budget u =
       let e = ap (λ (s : State). s .outcome) (after-more first budget u) in
       ((λ h. step-exceeds (searched n ma mb a b budget) (is-unfinished (outcomeAfter budget) u) (e ∙ h)), (λ x. sym e ∙ exceeds-step (searched n ma mb a b budget) x))
@@ -50,5 +49,5 @@ module _ (n ma mb : ℕ) (a b : List ℤ) where
       let large = too-large-next (o .k) (o .unfinished) .1 (o .exceeds) in
       ap (λ (s : State). s .outcome) (after-stops first (o .k + 1) budget (omega arith) (ap isUnfinished large)) ∙ large
 
-  pub too-large-is : (budget : ℕ) → (outcomeAfter budget ≡ TooLarge → Overflows first budget) × (Overflows first budget → outcomeAfter budget ≡ TooLarge)
+  pub too-large-is : (budget : ℕ) → Exactly (outcomeAfter budget ≡ TooLarge) (Overflows first budget)
   too-large-is budget = (overflows budget, ends budget)
