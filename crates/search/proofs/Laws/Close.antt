@@ -9,7 +9,7 @@ use mathlib.Core.List.{List, [], _∷_}
 use mathlib.Core.Bool.{Bool, true, false, cond}
 use Prim.Native.Nat.{ℕ, _+_, _*_, _≤_, _<_}
 use native.Mathlib.Omega.{arith}
-use native.Mathlib.Decide.{ℕ-discrete, decLt}
+use native.Mathlib.Decide.{ℕ-discrete}
 use borrow.Author.Tests.{eqb-true, lt-ltb}
 use lib.Dec.{eqb, ltb}
 use lib.ListN.{getD, set, length-set}
@@ -24,7 +24,7 @@ use Rattle.integers.specs.Run.{at}
 use Rattle.integers.proofs.Laws.Ring.{from2}
 use Rattle.integers.proofs.Laws.Normaliser.{ring!, quote}
 use Rattle.integers.proofs.Laws.Divisibility.{∣-exact, zero-∣, divides-true, divides-false}
-use Rattle.integers.proofs.Laws.Decide.{by-zero, decides-no}
+use Rattle.integers.proofs.Laws.Decide.{by-zero}
 use Rattle.integers.proofs.Laws.Run.{tabulate-at}
 use Rattle.search.specs.Table.{bound, cell, Bounded}
 use Rattle.search.specs.State.{State, Outcome, Unfinished, constOf, zOf}
@@ -34,7 +34,7 @@ use Rattle.search.specs.Code.{Sound}
 use Rattle.search.proofs.Laws.Sound.{close-bounded, first-in, count-low, entry-positive}
 use Rattle.search.proofs.Laws.Columns.{Table}
 use Rattle.search.proofs.Laws.Fuel.{Fuel, fuel-close}
-use Rattle.search.proofs.Laws.Faithful.{faithful-passed, faithful-placed, faithful-point}
+use Rattle.search.proofs.Laws.Faithful.{faithful-inside, faithful-passed, faithful-placed, faithful-point}
 use Rattle.search.proofs.Laws.Refuting.{residual-is, vector-refutes}
 use Rattle.search.proofs.Laws.Kept.{Kept, Right, Closing, closing}
 
@@ -89,13 +89,6 @@ module _ (C : Table) (s : State) (h : Sound s) (k : Kept C s) (goes : s .outcome
     fuel = fuel;
   }
 
-  -- a pivot stands in a column in use
-  inside : isZero e ≡ false → s .count < s .given .width
-  inside some = elim (decLt (s .count) (s .given .width)) [
-    | yes l ↦ l
-    | no l ↦ let c = count-low s h in absurd (decides-no (by-zero e) some (table .faithful .unused (s .row) (s .count) (h .row-in) (omega arith) (omega arith)))
-  ]
-
   placed-kept : isZero e ≡ false → (z : ℤ) → z *ℤ e ≡ residualOf s t → Kept C (placed s t z)
   unfolding placed
   placed-kept some z exact =
@@ -106,7 +99,7 @@ module _ (C : Table) (s : State) (h : Sound s) (k : Kept C s) (goes : s .outcome
       record {
         zs-long = length-set (s .zs) (s .count) z ∙ zl;
         faithful = faithful-placed (table .faithful) (h .row-in) (λ i. getD (set (s .pivots) (s .count) (s .row)) i 0) (λ i. getD (set (s .zs) (s .count) z) i (pos 0))
-            (inside some) (entry-positive s h some) (table .zeros)
+            (faithful-inside (table .faithful) (h .row-in) some) (entry-positive s h some) (table .zeros)
             (λ i l. getD-set-other (s .pivots) (s .count) i (s .row) 0 (omega arith))
             (getD-set-same (s .pivots) (s .count) (s .row) 0 (omega arith))
             (λ i l. getD-set-other (s .zs) (s .count) i z (pos 0) (omega arith))

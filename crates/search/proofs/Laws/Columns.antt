@@ -1,5 +1,6 @@
 -- Operations on columns. A table is a function of row and column here, and an operation works on each of its 36 rows alike.
 --
+--     Table                such a function
 --     Mixture c N x T      the column x is, in every row, α × column a + β × column b of T, with a and b among columns c, .., N - 1
 --     Operation c N T U    U is T after an operation on columns c, .., N - 1: the others stay, each new column is a mixture of old
 --                          ones, and each old column is a mixture of new ones

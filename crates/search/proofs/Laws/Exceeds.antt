@@ -43,11 +43,11 @@ not-large o e f = true≢false (ap isUnfinished (sym e ∙ f))
 -- The last row -----------------------------------------------------------------------------------------------------------
 
 -- `next` has closed the last row of s, and a place of its point is too large
-pub record LastExceeds (next : State) : Type 0 where
-  pub last : next .row ≡ next .given .m
-  pub k : ℕ
-  pub in-point : k < next .given .n
-  pub large : bound < natAbs (placeOf next k)
+record LastExceeds (next : State) : Type 0 where
+  last : next .row ≡ next .given .m
+  k : ℕ
+  in-point : k < next .given .n
+  large : bound < natAbs (placeOf next k)
 
 module _ (s next : State) where
   abbrev fits : ℕ → Bool

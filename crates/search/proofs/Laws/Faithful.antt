@@ -12,20 +12,23 @@
 --     faithful-operation     an operation on columns count, .., N - 1 keeps it
 --     faithful-passed        so does a close without pivot whose residual is 0
 --     faithful-placed        and a close with a pivot, whose z makes up the constant
+--     faithful-inside        an entry that is not 0 in column `count` says that the column is in use
 --     faithful-point         all rows closed: the lower table times z meets C and d
 --     FaithfulAt C s t       the same of a state s whose table is t
 --
 -- Assumes nothing.
 use mathlib.Core.Path.{_≡_, sym, _∙_, ap, subst⁻¹}
+use mathlib.Core.Bool.{false}
 use mathlib.Core.List.{List}
 use Prim.Native.Nat.{ℕ, suc, _+_, _<_, _≤_}
 use native.Mathlib.Decide.{decLt}
 use native.Mathlib.Omega.{arith}
 use lib.IntN.{ℤ, pos, _+ℤ_, _*ℤ_, zero-*ℤ, +ℤ-idr}
-use Rattle.integers.specs.Range.{Positive}
+use Rattle.integers.specs.Range.{isZero, Positive}
 use Rattle.integers.specs.Divisibility.{_∣ℤ_}
 use Rattle.integers.specs.Sum.{dot}
 use Rattle.integers.proofs.Laws.Sum.{sum-ext, sum-more, dot-exchange}
+use Rattle.integers.proofs.Laws.Decide.{by-zero, decides-no}
 use Rattle.search.specs.Table.{cell}
 use Rattle.search.specs.State.{State, constOf, pivotOf, zOf}
 use Rattle.search.proofs.Laws.Columns.{Table, Operation, operation-combines, operation-divides, operation-zeros}
@@ -71,6 +74,12 @@ module _ {m N : ℕ} {C : Table} {d : ℕ → ℤ} {T : Table} {row count : ℕ}
       }
 
   module _ (here : row < m) where
+    pub faithful-inside : isZero (T row count) ≡ false → count < N
+    faithful-inside some = elim (decLt count N) [
+      | yes l ↦ l
+      | no l ↦ let few = f .few in let low = f .count-row in absurd (decides-no (by-zero (T row count)) some (f .unused row count here (omega arith) (omega arith)))
+    ]
+
     last : (i : ℕ) → i < row + 1 → (i < row → ⊥) → i ≡ row
     last i l h = omega arith
 

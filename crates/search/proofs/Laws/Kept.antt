@@ -19,16 +19,16 @@ use lib.IntN.{ℤ, pos, natAbs}
 use Rattle.integers.specs.Range.{isZero, isNegative}
 use Rattle.integers.specs.Sum.{dot}
 use Rattle.integers.specs.Run.{at}
-use Rattle.integers.proofs.Laws.Decide.{by-zero, decides-no}
+use Rattle.integers.proofs.Laws.Decide.{by-zero}
 use Rattle.search.specs.Table.{cell, subtractionFits, subtractColumn, swapColumns, negateColumn}
 use Rattle.search.specs.State.{Given, State, Outcome, Unfinished, TooLarge, Refuted, Solved, constOf}
 use Rattle.search.specs.Step.{firstColumn, secondColumn, tooLarge, quotient, reduceBy, reduceOf, negateBy, swapBy, closeTable}
 use Rattle.search.specs.Code.{Sound}
 use Rattle.search.proofs.Laws.Table.{subtract-cell, subtract-other, swap-length, swap-first, swap-other, negate-other}
-use Rattle.search.proofs.Laws.Sound.{first-is, second-is, count-low, row-low}
+use Rattle.search.proofs.Laws.Sound.{first-is, second-is, row-low}
 use Rattle.search.proofs.Laws.Columns.{Table, subtract-operation, swap-operation, negate-operation}
 use Rattle.search.proofs.Laws.Fuel.{Fuel, quotient-halves, fuel-reduce}
-use Rattle.search.proofs.Laws.Faithful.{FaithfulAt, faithful-operation}
+use Rattle.search.proofs.Laws.Faithful.{FaithfulAt, faithful-operation, faithful-inside}
 use Rattle.search.proofs.Laws.Refuting.{RefutesTable}
 
 pub record Kept (C : Table) (s : State) : Type 0 where
@@ -113,9 +113,8 @@ module _ (C : Table) (s : State) (h : Sound s) (k : Kept C s) where
       | no l ↦
           let low = first-is s h .low in
           let high = first-is s h .high in
-          let count = count-low s h in
           let e : first ≡ s .count = omega arith in
-          absurd (decides-no (by-zero (v first)) some (ap v e ∙ k .faithful .unused (s .row) (s .count) (h .row-in) (omega arith) (omega arith)))
+          faithful-inside (k .faithful) (h .row-in) (ap (λ (j : ℕ). isZero (v j)) (sym e) ∙ some)
     ]
 
     none : isZero (v first) ≡ true → Closing C s (s .cells)

@@ -3,7 +3,8 @@
 --     after-none      no step: s itself
 --     after-more      unfinished after b steps: one more step gives the state after b + 1
 --     after-stops     finished after b steps: the same state after any more
---     after-last      unfinished at first and finished after b steps: there is a last step that was taken
+--     LastStep s b    the step that ends the search from s within b steps
+--     after-last      unfinished at first and finished after b steps: there is such a step
 --     after-count     unfinished after b steps: they are b, and counted so
 --     after-given     what is given stays
 --     after-sound     unfinished after b steps from a sound state: still sound

@@ -13,7 +13,7 @@
 --                checked-in-range  unit-in-range  back-in-range  back-all-in-range  vector-in-range
 --                                   vectors that are `ok` are in range
 --                range-bounded      the numerators are then Bounded
---                OutOfRange v       a numerator or q is above 1,000,000 in magnitude
+--                OutOfRange v       a numerator or q is above 1,000,000 in magnitude: numerator-out or denominator-out
 --                vector-out         a vector that is not `ok` is out of range, and only then: out-vector
 --
 -- Assumes nothing.
