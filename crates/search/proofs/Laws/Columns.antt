@@ -70,16 +70,16 @@ module _ (c N : ℕ) (x : ℕ → ℤ) (T : Table) (j : ℕ) (low : c ≤ j) (hi
 
 module _ (t : List ℤ) (long : length t ≡ 864) (c N : ℕ) (wide : N ≤ 24) where
   module _ (first second : ℕ) (q : ℤ) (first-low : c ≤ first) (first-high : first < N) (second-low : c ≤ second) (second-high : second < N) (apart : first ≡ second → ⊥) where
-    abbrev S : List ℤ
-    S = subtractColumn t first second q
+    abbrev subtracted : List ℤ
+    subtracted = subtractColumn t first second q
 
-    second-is : (i : ℕ) → i < 36 → cell S i second ≡ lessTimes (cell t i second) q (cell t i first)
+    second-is : (i : ℕ) → i < 36 → cell subtracted i second ≡ lessTimes (cell t i second) q (cell t i first)
     second-is i l = subtract-cell first second q (omega arith) t i l (omega arith)
 
-    rest-is : (i j : ℕ) → i < 36 → j < 24 → (j ≡ second → ⊥) → cell S i j ≡ cell t i j
+    rest-is : (i j : ℕ) → i < 36 → j < 24 → (j ≡ second → ⊥) → cell subtracted i j ≡ cell t i j
     rest-is = subtract-other first second q (omega arith) t
 
-    pub subtract-operation : Operation c N (cell t) (cell S)
+    pub subtract-operation : Operation c N (cell t) (cell subtracted)
     subtract-operation = record {
       before = λ i j l h. rest-is i j l (omega arith) (omega arith);
       past = λ i j l h g. rest-is i j l g (omega arith);
@@ -93,9 +93,9 @@ module _ (t : List ℤ) (long : length t ≡ 864) (c N : ℕ) (wide : N ≤ 24) 
           a-high = second-high;
           b-low = first-low;
           b-high = first-high;
-          is = λ i g. ap (cell S i) e ∙ second-is i g ∙ ring! (cell t i second ∷ cell t i first ∷ q ∷ []) (search quote depth 40 fits 20000) tt;
+          is = λ i g. ap (cell subtracted i) e ∙ second-is i g ∙ ring! (cell t i second ∷ cell t i first ∷ q ∷ []) (search quote depth 40 fits 20000) tt;
         }
-        | no d ↦ same c N (λ i. cell S i j) (cell t) j l h (λ i g. rest-is i j g (omega arith) d)
+        | no d ↦ same c N (λ i. cell subtracted i j) (cell t) j l h (λ i g. rest-is i j g (omega arith) d)
       ];
       old = λ j l h. elim (ℕ-discrete j second) [
         | yes e ↦ record {
@@ -110,67 +110,67 @@ module _ (t : List ℤ) (long : length t ≡ 864) (c N : ℕ) (wide : N ≤ 24) 
           is = λ i g. ap (cell t i) e ∙ ring! (cell t i second ∷ cell t i first ∷ q ∷ []) (search quote depth 40 fits 20000) tt
               ∙ ap₂ (λ x y. pos 1 *ℤ x +ℤ q *ℤ y) (sym (second-is i g)) (sym (rest-is i first g (omega arith) apart));
         }
-        | no d ↦ same c N (λ i. cell t i j) (cell S) j l h (λ i g. sym (rest-is i j g (omega arith) d))
+        | no d ↦ same c N (λ i. cell t i j) (cell subtracted) j l h (λ i g. sym (rest-is i j g (omega arith) d))
       ];
     }
 
   module _ (a b : ℕ) (a-low : c ≤ a) (a-high : a < N) (b-low : c ≤ b) (b-high : b < N) where
-    abbrev W : List ℤ
-    W = swapColumns t a b
+    abbrev swapped : List ℤ
+    swapped = swapColumns t a b
 
-    at-a : (i : ℕ) → i < 36 → cell W i a ≡ cell t i b
+    at-a : (i : ℕ) → i < 36 → cell swapped i a ≡ cell t i b
     at-a i l = swap-first a b (omega arith) (omega arith) t i l (omega arith)
 
-    at-b : (i : ℕ) → i < 36 → cell W i b ≡ cell t i a
+    at-b : (i : ℕ) → i < 36 → cell swapped i b ≡ cell t i a
     at-b i l = swap-second a b (omega arith) (omega arith) t i l (omega arith)
 
-    at-rest : (i j : ℕ) → i < 36 → j < 24 → (j ≡ a → ⊥) → (j ≡ b → ⊥) → cell W i j ≡ cell t i j
+    at-rest : (i j : ℕ) → i < 36 → j < 24 → (j ≡ a → ⊥) → (j ≡ b → ⊥) → cell swapped i j ≡ cell t i j
     at-rest = swap-other a b (omega arith) (omega arith) t
 
-    pub swap-operation : Operation c N (cell t) (cell W)
+    pub swap-operation : Operation c N (cell t) (cell swapped)
     swap-operation = record {
       before = λ i j l h. at-rest i j l (omega arith) (omega arith) (omega arith);
       past = λ i j l h g. at-rest i j l g (omega arith) (omega arith);
       new = λ j l h. elim (ℕ-discrete j a) [
-        | yes e ↦ same c N (λ i. cell W i j) (cell t) b b-low b-high (λ i g. ap (cell W i) e ∙ at-a i g)
+        | yes e ↦ same c N (λ i. cell swapped i j) (cell t) b b-low b-high (λ i g. ap (cell swapped i) e ∙ at-a i g)
         | no d ↦ elim (ℕ-discrete j b) [
-          | yes e ↦ same c N (λ i. cell W i j) (cell t) a a-low a-high (λ i g. ap (cell W i) e ∙ at-b i g)
-          | no f ↦ same c N (λ i. cell W i j) (cell t) j l h (λ i g. at-rest i j g (omega arith) d f)
+          | yes e ↦ same c N (λ i. cell swapped i j) (cell t) a a-low a-high (λ i g. ap (cell swapped i) e ∙ at-b i g)
+          | no f ↦ same c N (λ i. cell swapped i j) (cell t) j l h (λ i g. at-rest i j g (omega arith) d f)
         ]
       ];
       old = λ j l h. elim (ℕ-discrete j a) [
-        | yes e ↦ same c N (λ i. cell t i j) (cell W) b b-low b-high (λ i g. ap (cell t i) e ∙ sym (at-b i g))
+        | yes e ↦ same c N (λ i. cell t i j) (cell swapped) b b-low b-high (λ i g. ap (cell t i) e ∙ sym (at-b i g))
         | no d ↦ elim (ℕ-discrete j b) [
-          | yes e ↦ same c N (λ i. cell t i j) (cell W) a a-low a-high (λ i g. ap (cell t i) e ∙ sym (at-a i g))
-          | no f ↦ same c N (λ i. cell t i j) (cell W) j l h (λ i g. sym (at-rest i j g (omega arith) d f))
+          | yes e ↦ same c N (λ i. cell t i j) (cell swapped) a a-low a-high (λ i g. ap (cell t i) e ∙ sym (at-a i g))
+          | no f ↦ same c N (λ i. cell t i j) (cell swapped) j l h (λ i g. sym (at-rest i j g (omega arith) d f))
         ]
       ];
     }
 
   module _ (a : ℕ) (a-low : c ≤ a) (a-high : a < N) where
-    abbrev M : List ℤ
-    M = negateColumn t a
+    abbrev opposite : List ℤ
+    opposite = negateColumn t a
 
-    minus-a : (i : ℕ) → i < 36 → cell M i a ≡ negℤ (cell t i a)
+    minus-a : (i : ℕ) → i < 36 → cell opposite i a ≡ negℤ (cell t i a)
     minus-a i l = negate-cell a (omega arith) t i l (omega arith)
 
-    but-a : (i j : ℕ) → i < 36 → j < 24 → (j ≡ a → ⊥) → cell M i j ≡ cell t i j
+    but-a : (i j : ℕ) → i < 36 → j < 24 → (j ≡ a → ⊥) → cell opposite i j ≡ cell t i j
     but-a = negate-other a (omega arith) t
 
     turned : (x y : ℤ) → y ≡ negℤ x → x ≡ negℤ y
     turned x y e = ring! (x ∷ []) (search quote depth 40 fits 20000) tt ∙ ap negℤ (sym e)
 
-    pub negate-operation : Operation c N (cell t) (cell M)
+    pub negate-operation : Operation c N (cell t) (cell opposite)
     negate-operation = record {
       before = λ i j l h. but-a i j l (omega arith) (omega arith);
       past = λ i j l h g. but-a i j l g (omega arith);
       new = λ j l h. elim (ℕ-discrete j a) [
-        | yes e ↦ negated c N (λ i. cell M i j) (cell t) a a-low a-high (λ i g. ap (cell M i) e ∙ minus-a i g)
-        | no d ↦ same c N (λ i. cell M i j) (cell t) j l h (λ i g. but-a i j g (omega arith) d)
+        | yes e ↦ negated c N (λ i. cell opposite i j) (cell t) a a-low a-high (λ i g. ap (cell opposite i) e ∙ minus-a i g)
+        | no d ↦ same c N (λ i. cell opposite i j) (cell t) j l h (λ i g. but-a i j g (omega arith) d)
       ];
       old = λ j l h. elim (ℕ-discrete j a) [
-        | yes e ↦ negated c N (λ i. cell t i j) (cell M) a a-low a-high (λ i g. ap (cell t i) e ∙ turned (cell t i a) (cell M i a) (minus-a i g))
-        | no d ↦ same c N (λ i. cell t i j) (cell M) j l h (λ i g. sym (but-a i j g (omega arith) d))
+        | yes e ↦ negated c N (λ i. cell t i j) (cell opposite) a a-low a-high (λ i g. ap (cell t i) e ∙ turned (cell t i a) (cell opposite i a) (minus-a i g))
+        | no d ↦ same c N (λ i. cell t i j) (cell opposite) j l h (λ i g. sym (but-a i j g (omega arith) d))
       ];
     }
 

@@ -55,8 +55,8 @@ module _ (C : Table) (s : State) (h : Sound s) (k : Kept C s) where
   abbrev N : ℕ
   N = s .given .width
 
-  abbrev v : ℕ → ℤ
-  v = cell (s .cells) (s .row)
+  abbrev entry : ℕ → ℤ
+  entry = cell (s .cells) (s .row)
 
   abbrev first : ℕ
   first = firstColumn s
@@ -68,7 +68,7 @@ module _ (C : Table) (s : State) (h : Sound s) (k : Kept C s) where
     second = secondColumn s
 
     abbrev q : ℤ
-    q = quotient (v second) (v first)
+    q = quotient (entry second) (entry first)
 
     reduced : Kept C (reduceBy true s first second q)
     unfolding reduceBy
@@ -87,8 +87,8 @@ module _ (C : Table) (s : State) (h : Sound s) (k : Kept C s) where
           zs-long = k .zs-long;
           faithful = faithful-operation (k .faithful) (cell (subtractColumn (s .cells) first second q))
               (subtract-operation (s .cells) long (s .count) N wide first second q low (omega arith) second-low second-high (λ e. apart (sym e)));
-          fuel = fuel-reduce v (cell (subtractColumn (s .cells) first second q) (s .row)) (s .row) (s .steps) second (k .fuel) (omega arith)
-              (subst⁻¹ (λ x. 2 * natAbs x < natAbs (v second)) (subtract-cell first second q (omega arith) (s .cells) (s .row) (omega arith) (omega arith)) (quotient-halves (v second) (v first) (least .0) (least .1)))
+          fuel = fuel-reduce entry (cell (subtractColumn (s .cells) first second q) (s .row)) (s .row) (s .steps) second (k .fuel) (omega arith)
+              (subst⁻¹ (λ x. 2 * natAbs x < natAbs (entry second)) (subtract-cell first second q (omega arith) (s .cells) (s .row) (omega arith) (omega arith)) (quotient-halves (entry second) (entry first) (least .0) (least .1)))
               (λ j l d. subtract-other first second q (omega arith) (s .cells) (s .row) j (omega arith) l d);
         }
 
@@ -103,34 +103,34 @@ module _ (C : Table) (s : State) (h : Sound s) (k : Kept C s) where
   -- Close ------------------------------------------------------------------------------------------------------------
 
   module _ (alone : secondColumn s ≡ firstColumn s) where
-    only : (j : ℕ) → s .count ≤ j → j < N → (j ≡ first → ⊥) → v j ≡ pos 0
+    only : (j : ℕ) → s .count ≤ j → j < N → (j ≡ first → ⊥) → entry j ≡ pos 0
     only j l r = second-is s h .none alone j l (omega arith)
 
     -- a column that is not 0 stands among those in use
-    inside : isZero (v first) ≡ false → s .count < N
+    inside : isZero (entry first) ≡ false → s .count < N
     inside some = elim (decLt (s .count) N) [
       | yes l ↦ l
       | no l ↦
           let low = first-is s h .low in
           let high = first-is s h .high in
           let e : first ≡ s .count = omega arith in
-          faithful-inside (k .faithful) (h .row-in) (ap (λ (j : ℕ). isZero (v j)) (sym e) ∙ some)
+          faithful-inside (k .faithful) (h .row-in) (ap (λ (j : ℕ). isZero (entry j)) (sym e) ∙ some)
     ]
 
-    none : isZero (v first) ≡ true → Closing C s (s .cells)
+    none : isZero (entry first) ≡ true → Closing C s (s .cells)
     none z = record {
       faithful = k .faithful;
-      zeros = λ j l r. elim (ℕ-discrete j first) [ yes e ↦ ap v e ∙ by-zero (v first) .yes z | no d ↦ only j (omega arith) r d ];
+      zeros = λ j l r. elim (ℕ-discrete j first) [ yes e ↦ ap entry e ∙ by-zero (entry first) .yes z | no d ↦ only j (omega arith) r d ];
     }
 
     module _ (r-in : s .count < N) where
-      abbrev W : List ℤ
-      W = swapColumns (s .cells) first (s .count)
+      abbrev exchanged : List ℤ
+      exchanged = swapColumns (s .cells) first (s .count)
 
       first-high : first < N
       first-high = let l = first-is s h .in-range (omega arith) in omega arith
 
-      swapped : Closing C s W
+      swapped : Closing C s exchanged
       swapped =
           let low = first-is s h .low in
           let high = first-high in
@@ -138,32 +138,32 @@ module _ (C : Table) (s : State) (h : Sound s) (k : Kept C s) where
           let long = h .cells-long in
           let row = row-low s h in
           record {
-            faithful = faithful-operation (k .faithful) (cell W) (swap-operation (s .cells) long (s .count) N wide first (s .count) low high (omega arith) r-in);
+            faithful = faithful-operation (k .faithful) (cell exchanged) (swap-operation (s .cells) long (s .count) N wide first (s .count) low high (omega arith) r-in);
             zeros = λ j l r. elim (ℕ-discrete j first) [
-              | yes e ↦ ap (cell W (s .row)) e ∙ swap-first first (s .count) (omega arith) (omega arith) (s .cells) (s .row) (omega arith) (omega arith) ∙ only (s .count) (omega arith) r-in (omega arith)
+              | yes e ↦ ap (cell exchanged (s .row)) e ∙ swap-first first (s .count) (omega arith) (omega arith) (s .cells) (s .row) (omega arith) (omega arith) ∙ only (s .count) (omega arith) r-in (omega arith)
               | no d ↦ swap-other first (s .count) (omega arith) (omega arith) (s .cells) (s .row) j (omega arith) (omega arith) d (omega arith) ∙ only j (omega arith) r d
             ];
           }
 
-      negated : Closing C s (negateColumn W (s .count))
+      negated : Closing C s (negateColumn exchanged (s .count))
       negated =
           let wide = h .wide in
           let row = row-low s h in
           let high = first-high in
           record {
-            faithful = faithful-operation (swapped .faithful) (cell (negateColumn W (s .count)))
-                (negate-operation W (swap-length first (s .count) (omega arith) (omega arith) (s .cells) ∙ h .cells-long) (s .count) N wide (s .count) (omega arith) r-in);
-            zeros = λ j l r. negate-other (s .count) (omega arith) W (s .row) j (omega arith) (omega arith) (omega arith) ∙ swapped .zeros j l r;
+            faithful = faithful-operation (swapped .faithful) (cell (negateColumn exchanged (s .count)))
+                (negate-operation exchanged (swap-length first (s .count) (omega arith) (omega arith) (s .cells) ∙ h .cells-long) (s .count) N wide (s .count) (omega arith) r-in);
+            zeros = λ j l r. negate-other (s .count) (omega arith) exchanged (s .row) j (omega arith) (omega arith) (omega arith) ∙ swapped .zeros j l r;
           }
 
     pub closing : Closing C s (closeTable (s .cells) (s .row) first (s .count))
     unfolding swapBy negateBy
-    closing = go (isZero (v first)) refl
+    closing = go (isZero (entry first)) refl
       where
         turn : s .count < N → (b : Bool) → Closing C s (negateBy b (swapColumns (s .cells) first (s .count)) (s .count))
         turn l true = negated l
         turn l false = swapped l
 
-        go : (b : Bool) → isZero (v first) ≡ b → Closing C s (swapBy b (s .cells) (s .row) first (s .count))
+        go : (b : Bool) → isZero (entry first) ≡ b → Closing C s (swapBy b (s .cells) (s .row) first (s .count))
         go true z = none z
-        go false z = turn (inside z) (isNegative (v first))
+        go false z = turn (inside z) (isNegative (entry first))
