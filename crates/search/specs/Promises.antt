@@ -27,7 +27,7 @@ use Rattle.problem.specs.Points.{Meets}
 use Rattle.problem.specs.WellFormed.{million}
 use Rattle.checker.specs.Refutation.{refusal}
 use Rattle.search.specs.Table.{bound, cell, lessTimes}
-use Rattle.search.specs.State.{State, Outcome, TooLarge, Refuted, Solved, start}
+use Rattle.search.specs.State.{State, Outcome, Unfinished, TooLarge, Refuted, Solved, start}
 use Rattle.search.specs.Vector.{Vector, vectorOf}
 use Rattle.search.specs.Step.{firstColumn, secondColumn, quotient, closeTable, residualOf, placeOf, passed, placed}
 use Rattle.search.specs.Run.{isUnfinished, after}
@@ -135,6 +135,8 @@ module _ (n ma mb : ℕ) (a b vector point : List ℤ) where
   pub record Demand : Type 0 where
     -- it says "unfinished" exactly when the steps outnumber the budget
     pub unfinished : (budget : ℕ) → Exactly (saysUnfinished (answer budget) ≡ true) (Outnumber (start n rows) budget)
+    -- with the budget as its count
+    pub counted : (budget : ℕ) → saysUnfinished (answer budget) ≡ true → answer budget ≡ Answered (record { steps = budget; outcome = Unfinished })
     -- and then hands out no vector and no point
     pub unwritten : (budget : ℕ) → saysUnfinished (answer budget) ≡ true → (vectorRun budget ≡ vector) × (pointRun budget ≡ point)
     -- once it finishes under some budget, every larger budget gives the same answer and count, and the same runs

@@ -1,12 +1,11 @@
 -- A step ends as too large exactly when it would put a number above its bound.
 --
---     is-unfinished    an outcome that tests as unfinished is
 --     step-exceeds     a step from an unfinished state ends as too large: it would
 --     exceeds-step     it would: it ends as too large
 --
 -- Assumes nothing.
 use mathlib.Core.Path.{_≡_, refl, sym, ap, subst, subst⁻¹, _∙_}
-use mathlib.Core.Bool.{Bool, true, false, cond, true≢false, false≢true}
+use mathlib.Core.Bool.{Bool, true, false, cond, true≢false}
 use Prim.Native.Nat.{ℕ, _+_, _<_}
 use native.Mathlib.Omega.{arith}
 use borrow.Author.Tests.{eqb-true, eqb-false, eq-eqb, ne-eqb, leb-false}
@@ -18,7 +17,7 @@ use Rattle.integers.specs.Below.{allBelow}
 use Rattle.integers.proofs.Laws.Below.{all-place, all-false}
 use Rattle.integers.proofs.Laws.Decide.{decides-no, decides-false, by-zero, by-within, by-divides}
 use Rattle.search.specs.Table.{bound, cell, subtractionFits}
-use Rattle.search.specs.State.{Given, State, Outcome, Unfinished, TooLarge, Refuted, Solved}
+use Rattle.search.specs.State.{Given, State, Outcome, Unfinished, TooLarge}
 use Rattle.search.specs.Step.{firstColumn, secondColumn, tooLarge, quotient, reduceBy, reduceOf, placeOf, solveBy, lastBy, closed, passed, placed, placeBy, goOnBy, refuteBy, closeBy, closeOf, stepBy, stepOf}
 use Rattle.search.specs.Run.{isUnfinished}
 use Rattle.search.specs.Answer.{isRefuted, isSolved}
@@ -30,12 +29,6 @@ above B z e = leb-false (natAbs z) B e
 
 outside : (B : ℕ) (z : ℤ) → B < natAbs z → within B z ≡ false
 outside B z h = decides-false (by-within B z) (λ l. omega arith)
-
-pub is-unfinished : (o : Outcome) → isUnfinished o ≡ true → o ≡ Unfinished
-is-unfinished Unfinished u = refl
-is-unfinished TooLarge u = absurd (false≢true u)
-is-unfinished (Refuted q) u = absurd (false≢true u)
-is-unfinished Solved u = absurd (false≢true u)
 
 not-large : (o : Outcome) → o ≡ Unfinished → o ≡ TooLarge → ⊥
 not-large o e f = true≢false (ap isUnfinished (sym e ∙ f))

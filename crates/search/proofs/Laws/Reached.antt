@@ -14,6 +14,7 @@ use lib.Dec.{eqb}
 use Rattle.search.specs.State.{State, Outcome, Unfinished, TooLarge, Refuted, Solved}
 use Rattle.search.specs.Step.{firstColumn, secondColumn, stepBy, stepOf}
 use Rattle.search.specs.Run.{isUnfinished, nextBy, after}
+use Rattle.search.specs.Promises.{mostSteps}
 use Rattle.search.specs.Code.{Sound}
 use Rattle.search.proofs.Laws.Run.{after-count, after-sound}
 use Rattle.search.proofs.Laws.Columns.{Table}
@@ -41,17 +42,17 @@ module _ (C : Table) (s : State) (h : Sound s) (first : Right C (s .outcome) s) 
       go Solved e r = r
 
   -- 673 steps for each of at most 12 rows
-  pub after-enough : s .steps ≡ 0 → isUnfinished (after 8076 s .outcome) ≡ false
-  after-enough none = go (after 8076 s .outcome) refl (after-right 8076)
+  pub after-enough : s .steps ≡ 0 → isUnfinished (after mostSteps s .outcome) ≡ false
+  after-enough none = go (after mostSteps s .outcome) refl (after-right mostSteps)
     where
-      go : (o : Outcome) → after 8076 s .outcome ≡ o → Right C (after 8076 s .outcome) (after 8076 s) → isUnfinished o ≡ false
+      go : (o : Outcome) → after mostSteps s .outcome ≡ o → Right C (after mostSteps s .outcome) (after mostSteps s) → isUnfinished o ≡ false
       go Unfinished e r =
           let u = ap isUnfinished e in
-          let paid = subst (λ (o : Outcome). Right C o (after 8076 s)) e r .fuel .paid in
-          let sound = after-sound s h 8076 u in
+          let paid = subst (λ (o : Outcome). Right C o (after mostSteps s)) e r .fuel .paid in
+          let sound = after-sound s h mostSteps u in
           let few = sound .few-m in
           let row = sound .row-in in
-          let count = after-count s 8076 u in
+          let count = after-count s mostSteps u in
           absurd (omega arith)
       go TooLarge e r = refl
       go (Refuted q) e r = refl

@@ -1,5 +1,6 @@
 -- Laws of `after b s`, the state after b steps from s or after the last.
 --
+--     is-unfinished   an outcome that tests as unfinished is
 --     after-none      no step: s itself
 --     after-more      unfinished after b steps: one more step gives the state after b + 1
 --     after-stops     finished after b steps: the same state after any more
@@ -21,12 +22,15 @@ use Rattle.search.specs.Run.{isUnfinished, nextBy, after}
 use Rattle.search.specs.Code.{Sound}
 use Rattle.search.proofs.Laws.Sound.{step-onward, step-sound}
 
+pub is-unfinished : (o : Outcome) → isUnfinished o ≡ true → o ≡ Unfinished
+is-unfinished Unfinished u = refl
+is-unfinished TooLarge u = absurd (false≢true u)
+is-unfinished (Refuted q) u = absurd (false≢true u)
+is-unfinished Solved u = absurd (false≢true u)
+
 next-goes : (o : Outcome) (s : State) → isUnfinished o ≡ true → nextBy o s ≡ stepOf s
 unfolding nextBy
-next-goes Unfinished s u = refl
-next-goes TooLarge s u = absurd (false≢true u)
-next-goes (Refuted q) s u = absurd (false≢true u)
-next-goes Solved s u = absurd (false≢true u)
+next-goes o s u = ap (λ (x : Outcome). nextBy x s) (is-unfinished o u)
 
 next-stops : (o : Outcome) (s : State) → isUnfinished o ≡ false → nextBy o s ≡ s
 unfolding nextBy

@@ -20,8 +20,10 @@ use Rattle.search.specs.Run.{isUnfinished}
 use Rattle.search.specs.Answer.{replyOf, isRefuted, isSolved, writtenBy, writtenIf, searched, searchRefusal, searchReply}
 use Rattle.search.specs.Promises.{saysUnfinished, Says, Demand}
 use Rattle.search.specs.declared.Reply.{Reply}
+use Rattle.search.specs.declared.Reply.the-variants.{Answered}
+use Rattle.search.proofs.Laws.Run.{is-unfinished}
 use Rattle.search.proofs.Laws.Refusal.{well-formed-none, written-none}
-use Rattle.search.proofs.Theorems.Unfinished.{unfinished-is, unfinished-writes}
+use Rattle.search.proofs.Theorems.Unfinished.{unfinished-is, unfinished-count, unfinished-writes}
 use Rattle.search.proofs.Theorems.Larger.{reply-larger, runs-larger}
 use Rattle.search.proofs.Theorems.Enough.{enough}
 use Rattle.search.proofs.Theorems.Right.{refuted-accepted, refuted-none, solved-meets, exactly}
@@ -60,6 +62,12 @@ module _ (n ma mb : ℕ) (a b vector point : List ℤ) (w : WellFormed n ma mb a
   pub demand : Demand n ma mb a b vector point
   demand = record {
     unfinished = λ budget. unfinished-is n ma mb a b budget vector point (taken budget);
+    counted = λ budget u.
+        let o = unfinished-is n ma mb a b budget vector point (taken budget) .0 u in
+        answered budget
+        ∙ ap₂ (λ (k : ℕ) (o : Outcome). Answered (record { steps = k; outcome = o }))
+        (unfinished-count n ma mb a b budget vector point (taken budget) o)
+        (is-unfinished (final budget .outcome) (sym (unfinished-same budget) ∙ u));
     unwritten = λ budget u. unfinished-writes n ma mb a b budget vector point (taken budget) (unfinished-is n ma mb a b budget vector point (taken budget) .0 u);
     larger = λ budget more l f.
         let finished = sym (unfinished-same budget) ∙ f in

@@ -15,8 +15,8 @@ use Rattle.search.specs.State.{State, Outcome, TooLarge, start}
 use Rattle.search.specs.Run.{isUnfinished}
 use Rattle.search.specs.Answer.{searched}
 use Rattle.search.specs.Promises.{Exactly, Exceeds, Overflows}
-use Rattle.search.proofs.Laws.Run.{after-none, after-more, after-stops, after-last}
-use Rattle.search.proofs.Laws.Exceeds.{is-unfinished, step-exceeds, exceeds-step}
+use Rattle.search.proofs.Laws.Run.{is-unfinished, after-none, after-more, after-stops, after-last}
+use Rattle.search.proofs.Laws.Exceeds.{step-exceeds, exceeds-step}
 
 module _ (n ma mb : ℕ) (a b : List ℤ) where
   abbrev first : State
