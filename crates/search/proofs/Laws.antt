@@ -14,9 +14,9 @@
 --     Back      the numerators, going back over the pivot columns
 --     Refuting  the vector of a row that refutes does refute
 --     Kept      what holds of every state that is reached, and that Reduce keeps it
---     Close     Close keeps it, or ends with an answer that is right
+--     Closing   Close keeps it, or ends with an answer that is right
 --     Reached   many steps keep it, and 8,076 of them are enough
---     Entered   what holds at the start, and what an answer about the table says of the rows
+--     Rows      what holds at the start, and what an answer about the table says of the rows
 --     Exceeds   too large is said exactly when a number is above its bound
 pub mod Table
 pub mod Scan
@@ -32,7 +32,7 @@ pub mod Faithful
 pub mod Back
 pub mod Refuting
 pub mod Kept
-pub mod Close
+pub mod Closing
 pub mod Reached
-pub mod Entered
+pub mod Rows
 pub mod Exceeds

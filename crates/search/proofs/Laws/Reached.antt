@@ -19,7 +19,7 @@ use Rattle.search.specs.Code.{Sound}
 use Rattle.search.proofs.Laws.Run.{after-count, after-sound}
 use Rattle.search.proofs.Laws.Columns.{Table}
 use Rattle.search.proofs.Laws.Kept.{Kept, Right, reduce-right}
-use Rattle.search.proofs.Laws.Close.{close-right}
+use Rattle.search.proofs.Laws.Closing.{close-right}
 
 pub step-right : (C : Table) (s : State) → Sound s → Kept C s → s .outcome ≡ Unfinished → Right C (stepOf s .outcome) (stepOf s)
 unfolding stepOf stepBy

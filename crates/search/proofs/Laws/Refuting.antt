@@ -1,6 +1,6 @@
 -- The vector of a row that refutes does refute the rows as they were entered.
 --
---     residual-is             the constant of the current row is its residual and the entries × z
+--     constant-is             the constant of the current row is its residual and the entries × z
 --     RefutesTable C g p q    q divides every column sum of p × C, not the sum of p × d; q is above 0; q and p are at most 1,000,000
 --                             in magnitude
 --     vector-refutes          the vector that the current row of s gives with table t, where it is in order, and where the row's entry
@@ -38,9 +38,9 @@ use Rattle.search.proofs.Laws.Faithful.{FaithfulAt}
 use Rattle.search.proofs.Laws.Back.{Back, back-start, back-step, back-columns, back-constants, back-none}
 use Rattle.search.proofs.Laws.Vector.{factor-positive, factor-divides, back-stops, vector-in-range}
 
-pub residual-is : (s : State) (t : List ℤ) → constOf (s .given) (s .row) ≡ residualOf s t +ℤ dot (s .count) (cell t (s .row)) (zOf s)
+pub constant-is : (s : State) (t : List ℤ) → constOf (s .given) (s .row) ≡ residualOf s t +ℤ dot (s .count) (cell t (s .row)) (zOf s)
 unfolding residualOf
-residual-is s t = ring! (constOf (s .given) (s .row) ∷ dot (s .count) (cell t (s .row)) (zOf s) ∷ []) (search quote depth 40 fits 20000) tt
+constant-is s t = ring! (constOf (s .given) (s .row) ∷ dot (s .count) (cell t (s .row)) (zOf s) ∷ []) (search quote depth 40 fits 20000) tt
 
 pub record RefutesTable (C : Table) (g : Given) (p : ℕ → ℤ) (q : ℤ) : Type 0 where
   pub columns : (j : ℕ) → j < g .width → q ∣ℤ dot (g .m) p (λ i. C i j)
@@ -120,15 +120,15 @@ module _ (C : Table) (s : State) (t : List ℤ) (f : FaithfulAt C s t) (now : s 
     with-pivot v w some =
         let q : v .q ≡ w .μ *ℤ e = w .q-is ∙ ap (λ (b : Bool). w .μ *ℤ cond b (pos 1) e) some in
         record {
-          columns = λ j l. subst⁻¹ (λ x. x ∣ℤ dot m (at (v .p)) (λ i. C i j)) q (back-columns f now e (at (v .p)) (w .μ) (residualOf s t) (w .back) (residual-is s t) j l);
-          constants = λ h. back-constants f now e (at (v .p)) (w .μ) (residualOf s t) (w .back) (residual-is s t) fails (subst (λ x. x ∣ℤ dot m (at (v .p)) (constOf (s .given))) q h);
+          columns = λ j l. subst⁻¹ (λ x. x ∣ℤ dot m (at (v .p)) (λ i. C i j)) q (back-columns f now e (at (v .p)) (w .μ) (residualOf s t) (w .back) (constant-is s t) j l);
+          constants = λ h. back-constants f now e (at (v .p)) (w .μ) (residualOf s t) (w .back) (constant-is s t) fails (subst (λ x. x ∣ℤ dot m (at (v .p)) (constOf (s .given))) q h);
           q-positive = subst⁻¹ Positive q (positive-mul (w .back .scale) (positive some));
         }
 
     without-pivot : (v : Vector) → Way 0 v → isZero e ≡ true → Refuting (denominatorBy true s v)
     unfolding denominatorBy checked
     without-pivot v w none =
-        let b = back-none f now e (at (v .p)) (w .μ) (residualOf s t) (w .back) (residual-is s t) (by-zero e .yes none) fails in
+        let b = back-none f now e (at (v .p)) (w .μ) (residualOf s t) (w .back) (constant-is s t) (by-zero e .yes none) fails in
         let sum = dot m (at (v .p)) (constOf (s .given)) in
         let n = nonDivisor-is sum (b .1) in
         let two = n .from-two in

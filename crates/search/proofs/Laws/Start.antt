@@ -2,40 +2,33 @@
 --
 --     Congruences    congruences-none  congruences-more     before row 0, and before the code's k + 1
 --                    congruences-few    at most one a row
---                    congruences-rise   before a later row there are more, if row i is a congruence
 --     Rows           modulus-is         what the code reads in column n + 1 is the modulus
 --                    upper-any          a row's cell does not hang on the number of B's rows
 --     Cells          upper-coef upper-modulus upper-zero             a row's cell, by its column
---                    upper-else         0 in a column that is not of the row's own congruence
---                    upper-divides      the modulus divides what stands past the variables
---                    start-at           the cells of the table at the start
 --                    start-row start-one start-past start-off        the cell of a row, of the diagonal, past its end, off it
 --     Sound          rows-in            the rows of a well-formed problem are in their ranges
 --                    start-small        every cell is at most a million in magnitude
 --                    start-sound        the start of a well-formed problem is sound
 --
 -- Assumes nothing.
-use mathlib.Core.Path.{_≡_, refl, sym, _∙_, ap, ap₂, subst, subst⁻¹}
+use mathlib.Core.Path.{_≡_, refl, _∙_, ap, ap₂, subst⁻¹}
 use mathlib.Core.Bool.{Bool, true, false, cond, _&&_}
 use mathlib.Core.List.{List}
 use Prim.Native.Nat.{ℕ, zero, suc, _+_, _*_, _-_, _<_, _≤_, _/_, _%_}
 use native.Mathlib.Numerals.{add-one}
 use native.Mathlib.Omega.{arith}
-use native.Mathlib.Decide.{ℕ-discrete, decLt}
+use native.Mathlib.Decide.{decLt}
 use borrow.Author.Tests.{lt-ltb, le-ltb, eq-eqb, ne-eqb}
 use lib.Dec.{eqb, ltb}
 use lib.ListN.{length, length-replicate}
 use lib.IntN.{ℤ, pos, natAbs}
 use lib.Signed.{_≤ℤ_}
 use Rattle.integers.specs.Range.{isZero}
-use Rattle.integers.specs.Divisibility.{_∣ℤ_}
 use Rattle.integers.specs.Run.{at, tabulate}
-use Rattle.integers.proofs.Laws.Divisibility.{∣-refl, ∣-eq, ∣-of-zero}
-use Rattle.integers.proofs.Laws.Decide.{by-zero, decides-stable}
 use Rattle.integers.proofs.Laws.Run.{at-end, tabulate-length, tabulate-at, tabulate-zeros}
 use Rattle.problem.specs.Rows.{Rows, rowsOf}
 use Rattle.problem.specs.WellFormed.{million, RowInRange, WellFormed}
-use Rattle.search.specs.Table.{bound, cell}
+use Rattle.search.specs.Table.{bound}
 use Rattle.search.specs.State.{congruences, ownColumn, widthOf, upperCell, startCell, startTable, givenOf, start}
 use Rattle.search.specs.Code.{Sound}
 
@@ -58,27 +51,6 @@ pub congruences-few : (l : ℕ → ℤ) (k : ℕ) → congruences l k ≤ k
 unfolding congruences
 congruences-few l zero = omega arith
 congruences-few l (suc k) = let h = congruences-few l k in let g = one (isZero (l k)) in omega arith
-
-module _ (l : ℕ → ℤ) where
-  more : (i : ℕ) → (l i ≡ pos 0 → ⊥) → congruences l (suc i) ≡ suc (congruences l i)
-  unfolding congruences
-  more i some = go (isZero (l i)) refl
-    where
-      go : (b : Bool) → isZero (l i) ≡ b → congruences l i + cond b 0 1 ≡ suc (congruences l i)
-      go true e = absurd (some (by-zero (l i) .yes e))
-      go false e = omega arith
-
-  no-less : (k i : ℕ) → congruences l i ≤ congruences l (k + i)
-  unfolding congruences
-  no-less zero i = let e : 0 + i ≡ i = omega arith in rw e (omega arith)
-  no-less (suc k) i = let e : suc k + i ≡ suc (k + i) = omega arith in let h = no-less k i in rw e (omega arith)
-
-  pub congruences-rise : (i j : ℕ) → i < j → (l i ≡ pos 0 → ⊥) → congruences l i < congruences l j
-  congruences-rise i j h some =
-      let e : (j - suc i) + suc i ≡ j = omega arith in
-      let r = subst (λ (x : ℕ). congruences l (suc i) ≤ congruences l x) e (no-less (j - suc i) (suc i)) in
-      let m = more i some in
-      omega arith
 
 -- Rows -----------------------------------------------------------------------------------------------------------------
 
@@ -109,18 +81,6 @@ module _ (n : ℕ) (R : Rows) (i j : ℕ) where
   pub upper-zero : n ≤ j → (j ≡ ownColumn n R i → ⊥) → upperCell n R i j ≡ pos 0
   upper-zero h e = upper-by (le-ltb j n h) (ne-eqb j (ownColumn n R i) e)
 
-  pub upper-else : n ≤ j → ((R .modulus i ≡ pos 0 → ⊥) → j ≡ ownColumn n R i → ⊥) → upperCell n R i j ≡ pos 0
-  upper-else h other = elim (ℕ-discrete j (ownColumn n R i)) [
-    | yes e ↦ upper-modulus h e ∙ decides-stable (by-zero (R .modulus i)) (λ some. other some e)
-    | no d ↦ upper-zero h d
-  ]
-
-  pub upper-divides : n ≤ j → R .modulus i ∣ℤ upperCell n R i j
-  upper-divides h = elim (ℕ-discrete j (ownColumn n R i)) [
-    | yes e ↦ ∣-eq (sym (upper-modulus h e)) (∣-refl (R .modulus i))
-    | no d ↦ ∣-of-zero (R .modulus i) (upper-zero h d)
-  ]
-
   start-by : {s t u : Bool} → ltb i (R .m) ≡ s → eqb i (12 + j) ≡ t → ltb j (widthOf n R) ≡ u → startCell n R i j ≡ cond s (upperCell n R i j) (cond (t && u) (pos 1) (pos 0))
   unfolding startCell
   start-by {s} e f g =
@@ -138,13 +98,6 @@ module _ (n : ℕ) (R : Rows) (i j : ℕ) where
 
   pub start-off : R .m ≤ i → (i ≡ 12 + j → ⊥) → startCell n R i j ≡ pos 0
   start-off h e = start-by (le-ltb i (R .m) h) (ne-eqb i (12 + j) e) refl
-
-  pub start-at : i < 36 → j < 24 → cell (startTable n R) i j ≡ startCell n R i j
-  unfolding startTable
-  start-at h l =
-      let d : (i * 24 + j) / 24 ≡ i = omega arith in
-      let r : (i * 24 + j) % 24 ≡ j = omega arith in
-      tabulate-at 864 (λ k. startCell n R (k / 24) (k % 24)) (i * 24 + j) (omega arith) ∙ ap₂ (startCell n R) d r
 
 -- Sound ----------------------------------------------------------------------------------------------------------------
 

@@ -16,7 +16,7 @@ use Rattle.search.specs.Answer.{searched}
 use Rattle.search.specs.Promises.{mostSteps}
 use Rattle.search.proofs.Laws.Start.{start-sound}
 use Rattle.search.proofs.Laws.Reached.{after-enough}
-use Rattle.search.proofs.Laws.Entered.{start-right}
+use Rattle.search.proofs.Laws.Rows.{start-right}
 use Rattle.search.proofs.Theorems.Larger.{finished-larger}
 
 module _ (n ma mb : ℕ) (a b : List ℤ) (w : WellFormed n ma mb a b) where

@@ -31,7 +31,7 @@ use Rattle.search.proofs.Laws.Start.{start-sound}
 use Rattle.search.proofs.Laws.Refuting.{RefutesTable}
 use Rattle.search.proofs.Laws.Kept.{SolvesTable, Right}
 use Rattle.search.proofs.Laws.Reached.{after-right}
-use Rattle.search.proofs.Laws.Entered.{start-right, refutes-rows, solves-rows}
+use Rattle.search.proofs.Laws.Rows.{start-right, refutes-rows, solves-rows}
 
 module _ (n ma mb : ℕ) (a b : List ℤ) (w : WellFormed n ma mb a b) (budget : ℕ) where
   abbrev R : Rows

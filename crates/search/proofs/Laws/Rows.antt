@@ -1,16 +1,17 @@
--- The rows as they are entered: what holds at the start, and what an answer about the table says of the rows.
+-- The rows, and the table at the start in which they stand: what holds at the start, and what an answer about this table says of the
+-- rows.
 --
---     start-right      the start of a well-formed problem is right
 --     refutes-rows     a vector that refutes the table at the start refutes the rows
 --     solves-rows      a point that solves the table at the start meets the rows
+--     start-right      the start of a well-formed problem is right
 --
 -- Assumes nothing.
-use mathlib.Core.Path.{_≡_, refl, sym, ap, ap₂, _∙_}
+use mathlib.Core.Path.{_≡_, refl, sym, ap, ap₂, subst, _∙_}
 use mathlib.Core.List.{List, [], _∷_}
 use mathlib.Core.Bool.{Bool, true, false, cond}
-use Prim.Native.Nat.{ℕ, _+_, _*_, _≤_, _<_}
+use Prim.Native.Nat.{ℕ, zero, suc, _+_, _*_, _-_, _/_, _%_, _≤_, _<_}
 use native.Mathlib.Omega.{arith}
-use native.Mathlib.Decide.{decLt}
+use native.Mathlib.Decide.{ℕ-discrete, decLt}
 use borrow.Author.Tests.{lt-ltb}
 use lib.Dec.{ltb}
 use lib.ListN.{length-replicate}
@@ -20,21 +21,69 @@ use Rattle.integers.specs.Divisibility.{_∣ℤ_}
 use Rattle.integers.specs.Sum.{sum, dot}
 use Rattle.integers.proofs.Laws.Ring.{from1, mul-one}
 use Rattle.integers.proofs.Laws.Normaliser.{ring!, quote}
-use Rattle.integers.proofs.Laws.Divisibility.{∣-eq, ∣-neg, ∣-of-zero, ∣-mulʳ}
+use Rattle.integers.proofs.Laws.Divisibility.{∣-refl, ∣-eq, ∣-neg, ∣-of-zero, ∣-mulʳ}
 use Rattle.integers.proofs.Laws.Sum.{sum-ext, sum-one, sum-split, sum-divides}
-use Rattle.integers.proofs.Laws.Decide.{by-zero, decides-no}
+use Rattle.integers.proofs.Laws.Decide.{by-zero, decides-no, decides-stable}
 use Rattle.integers.proofs.Laws.Run.{tabulate-at}
 use Rattle.problem.specs.Rows.{Rows, rowsOf}
 use Rattle.problem.specs.Points.{Meets}
 use Rattle.problem.specs.WellFormed.{WellFormed}
 use Rattle.checker.specs.Refutation.{Refutes}
 use Rattle.search.specs.Table.{cell}
-use Rattle.search.specs.State.{congruences, ownColumn, widthOf, upperCell, startTable, givenOf, start, constOf}
-use Rattle.search.proofs.Laws.Start.{congruences-few, congruences-rise, upper-coef, upper-modulus, upper-else, upper-divides, start-row, start-one, start-off, start-at, start-sound}
+use Rattle.search.specs.State.{congruences, ownColumn, widthOf, upperCell, startCell, startTable, givenOf, start, constOf}
+use Rattle.search.proofs.Laws.Start.{congruences-few, upper-coef, upper-modulus, upper-zero, start-row, start-one, start-off, start-sound}
 use Rattle.search.proofs.Laws.Fuel.{fuel-start}
 use Rattle.search.proofs.Laws.Faithful.{Faithful}
 use Rattle.search.proofs.Laws.Refuting.{RefutesTable}
 use Rattle.search.proofs.Laws.Kept.{SolvesTable, Right}
+
+-- Congruences ----------------------------------------------------------------------------------------------------------
+
+module _ (l : ℕ → ℤ) where
+  one-more : (i : ℕ) → (l i ≡ pos 0 → ⊥) → congruences l (suc i) ≡ suc (congruences l i)
+  unfolding congruences
+  one-more i some = go (isZero (l i)) refl
+    where
+      go : (b : Bool) → isZero (l i) ≡ b → congruences l i + cond b 0 1 ≡ suc (congruences l i)
+      go true e = absurd (some (by-zero (l i) .yes e))
+      go false e = omega arith
+
+  no-less : (k i : ℕ) → congruences l i ≤ congruences l (k + i)
+  unfolding congruences
+  no-less zero i = let e : 0 + i ≡ i = omega arith in rw e (omega arith)
+  no-less (suc k) i = let e : suc k + i ≡ suc (k + i) = omega arith in let h = no-less k i in rw e (omega arith)
+
+  -- a congruence counts before every later row
+  rise : (i j : ℕ) → i < j → (l i ≡ pos 0 → ⊥) → congruences l i < congruences l j
+  rise i j h some =
+      let e : (j - suc i) + suc i ≡ j = omega arith in
+      let r = subst (λ (x : ℕ). congruences l (suc i) ≤ congruences l x) e (no-less (j - suc i) (suc i)) in
+      let m = one-more i some in
+      omega arith
+
+-- The table at the start -------------------------------------------------------------------------------------------------
+
+module _ (n : ℕ) (R : Rows) (i j : ℕ) where
+  -- 0 in a column that is not of the row's own congruence
+  upper-else : n ≤ j → ((R .modulus i ≡ pos 0 → ⊥) → j ≡ ownColumn n R i → ⊥) → upperCell n R i j ≡ pos 0
+  upper-else h other = elim (ℕ-discrete j (ownColumn n R i)) [
+    | yes e ↦ upper-modulus n R i j h e ∙ decides-stable (by-zero (R .modulus i)) (λ some. other some e)
+    | no d ↦ upper-zero n R i j h d
+  ]
+
+  -- the modulus divides what stands past the variables
+  upper-divides : n ≤ j → R .modulus i ∣ℤ upperCell n R i j
+  upper-divides h = elim (ℕ-discrete j (ownColumn n R i)) [
+    | yes e ↦ ∣-eq (sym (upper-modulus n R i j h e)) (∣-refl (R .modulus i))
+    | no d ↦ ∣-of-zero (R .modulus i) (upper-zero n R i j h d)
+  ]
+
+  start-at : i < 36 → j < 24 → cell (startTable n R) i j ≡ startCell n R i j
+  unfolding startTable
+  start-at h l =
+      let d : (i * 24 + j) / 24 ≡ i = omega arith in
+      let r : (i * 24 + j) % 24 ≡ j = omega arith in
+      tabulate-at 864 (λ k. startCell n R (k / 24) (k % 24)) (i * 24 + j) (omega arith) ∙ ap₂ (startCell n R) d r
 
 module _ (n : ℕ) (R : Rows) (few-n : n ≤ 12) (few-m : R .m ≤ 12) where
   abbrev N : ℕ
@@ -53,7 +102,7 @@ module _ (n : ℕ) (R : Rows) (few-n : n ≤ 12) (few-m : R .m ≤ 12) where
     row-in = omega arith;
     count-row = omega arith;
     count-in = omega arith;
-    unused = λ i j l h r. upper-is i j l r ∙ upper-else n R i j (omega arith) (λ some e. let c = congruences-rise (R .modulus) i (R .m) l some in omega arith);
+    unused = λ i j l h r. upper-is i j l r ∙ upper-else n R i j (omega arith) (λ some e. let c = rise (R .modulus) i (R .m) l some in omega arith);
     product = λ i j l h. upper-is i j l (omega arith) ∙ sym (
         sum-one N (λ k. upperCell n R i k *ℤ cell (startTable n R) (12 + k) j) j h
         (λ k r d. ap (λ x. upperCell n R i k *ℤ x) (start-at n R (12 + k) j (omega arith) (omega arith) ∙ start-off n R (12 + k) j (omega arith) (omega arith)) ∙ *ℤ-zero (upperCell n R i k))
@@ -80,8 +129,8 @@ module _ (n : ℕ) (R : Rows) (few-n : n ≤ 12) (few-m : R .m ≤ 12) where
     -- the own columns of two congruences are apart
     apart : (i k : ℕ) → (k ≡ i → ⊥) → (R .modulus i ≡ pos 0 → ⊥) → (R .modulus k ≡ pos 0 → ⊥) → ownColumn n R i ≡ ownColumn n R k → ⊥
     apart i k d some other e = elim (decLt i k) [
-      | yes h ↦ let c = congruences-rise (R .modulus) i k h some in omega arith
-      | no h ↦ let c = congruences-rise (R .modulus) k i (omega arith) other in omega arith
+      | yes h ↦ let c = rise (R .modulus) i k h some in omega arith
+      | no h ↦ let c = rise (R .modulus) k i (omega arith) other in omega arith
     ]
 
     own : (i : ℕ) → i < R .m → (R .modulus i ≡ pos 0 → ⊥) → dot (R .m) p (λ k. upperCell n R k (ownColumn n R i)) ≡ numerators i *ℤ R .modulus i
@@ -95,7 +144,7 @@ module _ (n : ℕ) (R : Rows) (few-n : n ≤ 12) (few-m : R .m ≤ 12) where
     modulus i l true e = ∣-of-zero q (ap (λ x. numerators i *ℤ x) (by-zero (R .modulus i) .yes e) ∙ *ℤ-zero (numerators i))
     modulus i l false e =
         let some = decides-no (by-zero (R .modulus i)) e in
-        let c = congruences-rise (R .modulus) i (R .m) l some in
+        let c = rise (R .modulus) i (R .m) l some in
         ∣-eq (own i l some) (r .columns (ownColumn n R i) (omega arith))
 
     pub refutes-rows : Refutes n R q numerators

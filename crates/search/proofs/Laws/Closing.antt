@@ -1,7 +1,9 @@
 -- Close leaves a right state: unfinished and kept, or too large, or refuted with a vector that refutes, or solved with a point that
 -- solves.
 --
---     close-right    of a sound state that is kept, where no second column is nonzero
+--     Closing C s t    of the table t of a row that closes: faithful, and 0 in the row after column `count`
+--     closing          the table that Close makes is such a table
+--     close-right      of a sound state that is kept, where no second column is nonzero
 --
 -- Assumes nothing.
 use mathlib.Core.Path.{_≡_, refl, sym, ap, subst, subst⁻¹, _∙_}
@@ -9,14 +11,14 @@ use mathlib.Core.List.{List, [], _∷_}
 use mathlib.Core.Bool.{Bool, true, false, cond}
 use Prim.Native.Nat.{ℕ, _+_, _*_, _≤_, _<_}
 use native.Mathlib.Omega.{arith}
-use native.Mathlib.Decide.{ℕ-discrete}
+use native.Mathlib.Decide.{ℕ-discrete, decLt}
 use borrow.Author.Tests.{eqb-true, lt-ltb}
 use lib.Dec.{eqb, ltb}
 use lib.ListN.{getD, set, length-set}
 use lib.Seq.{getD-set-same, getD-set-other}
 use lib.IntN.{ℤ, pos, negsuc, _+ℤ_, _*ℤ_, +ℤ-idl}
 use lib.Signed.{quotZ}
-use Rattle.integers.specs.Range.{isZero, within}
+use Rattle.integers.specs.Range.{isZero, isNegative, within}
 use Rattle.integers.specs.Divisibility.{_∣ℤ_, divides}
 use Rattle.integers.specs.Sum.{dot}
 use Rattle.integers.specs.Below.{allBelow}
@@ -26,17 +28,101 @@ use Rattle.integers.proofs.Laws.Normaliser.{ring!, quote}
 use Rattle.integers.proofs.Laws.Divisibility.{∣-exact, zero-∣, divides-true, divides-false}
 use Rattle.integers.proofs.Laws.Decide.{by-zero}
 use Rattle.integers.proofs.Laws.Run.{tabulate-at}
-use Rattle.search.specs.Table.{bound, cell, Bounded}
+use Rattle.search.specs.Table.{bound, cell, Bounded, swapColumns, negateColumn}
 use Rattle.search.specs.State.{State, Outcome, Unfinished, constOf, zOf}
 use Rattle.search.specs.Vector.{vectorOf}
-use Rattle.search.specs.Step.{firstColumn, secondColumn, tooLarge, closeTable, residualOf, placeOf, pointOf, solveBy, lastBy, closed, passed, placed, placeBy, goOnBy, refuteBy, closeBy, closeOf}
+use Rattle.search.specs.Step.{firstColumn, secondColumn, tooLarge, negateBy, swapBy, closeTable, residualOf, placeOf, pointOf, solveBy, lastBy, closed, passed, placed, placeBy, goOnBy, refuteBy, closeBy, closeOf}
 use Rattle.search.specs.Code.{Sound}
-use Rattle.search.proofs.Laws.Sound.{close-bounded, first-in, count-low, entry-positive}
-use Rattle.search.proofs.Laws.Columns.{Table}
+use Rattle.search.proofs.Laws.Table.{swap-length, swap-first, swap-other, negate-other}
+use Rattle.search.proofs.Laws.Sound.{close-bounded, first-is, second-is, first-in, count-low, row-low, entry-positive}
+use Rattle.search.proofs.Laws.Columns.{Table, swap-operation, negate-operation}
 use Rattle.search.proofs.Laws.Fuel.{Fuel, fuel-close}
-use Rattle.search.proofs.Laws.Faithful.{faithful-inside, faithful-passed, faithful-placed, faithful-point}
-use Rattle.search.proofs.Laws.Refuting.{residual-is, vector-refutes}
-use Rattle.search.proofs.Laws.Kept.{Kept, Right, Closing, closing}
+use Rattle.search.proofs.Laws.Faithful.{FaithfulAt, faithful-operation, faithful-inside, faithful-passed, faithful-placed, faithful-point}
+use Rattle.search.proofs.Laws.Refuting.{constant-is, vector-refutes}
+use Rattle.search.proofs.Laws.Kept.{Kept, Right}
+
+-- The closed table -----------------------------------------------------------------------------------------------------
+
+pub record Closing (C : Table) (s : State) (t : List ℤ) : Type 0 where
+  pub faithful : FaithfulAt C s t
+  pub zeros : (j : ℕ) → s .count < j → j < s .given .width → cell t (s .row) j ≡ pos 0
+
+module _ (C : Table) (s : State) (h : Sound s) (k : Kept C s) (alone : secondColumn s ≡ firstColumn s) where
+  abbrev N : ℕ
+  N = s .given .width
+
+  abbrev entry : ℕ → ℤ
+  entry = cell (s .cells) (s .row)
+
+  abbrev first : ℕ
+  first = firstColumn s
+
+  only : (j : ℕ) → s .count ≤ j → j < N → (j ≡ first → ⊥) → entry j ≡ pos 0
+  only j l r = second-is s h .none alone j l (omega arith)
+
+  -- a column that is not 0 stands among those in use
+  inside : isZero (entry first) ≡ false → s .count < N
+  inside some = elim (decLt (s .count) N) [
+    | yes l ↦ l
+    | no l ↦
+        let low = first-is s h .low in
+        let high = first-is s h .high in
+        let e : first ≡ s .count = omega arith in
+        faithful-inside (k .faithful) (h .row-in) (ap (λ (j : ℕ). isZero (entry j)) (sym e) ∙ some)
+  ]
+
+  none : isZero (entry first) ≡ true → Closing C s (s .cells)
+  none z = record {
+    faithful = k .faithful;
+    zeros = λ j l r. elim (ℕ-discrete j first) [ yes e ↦ ap entry e ∙ by-zero (entry first) .yes z | no d ↦ only j (omega arith) r d ];
+  }
+
+  module _ (r-in : s .count < N) where
+    abbrev exchanged : List ℤ
+    exchanged = swapColumns (s .cells) first (s .count)
+
+    first-high : first < N
+    first-high = let l = first-is s h .in-range (omega arith) in omega arith
+
+    swapped : Closing C s exchanged
+    swapped =
+        let low = first-is s h .low in
+        let high = first-high in
+        let wide = h .wide in
+        let long = h .cells-long in
+        let row = row-low s h in
+        record {
+          faithful = faithful-operation (k .faithful) (cell exchanged) (swap-operation (s .cells) long (s .count) N wide first (s .count) low high (omega arith) r-in);
+          zeros = λ j l r. elim (ℕ-discrete j first) [
+            | yes e ↦ ap (cell exchanged (s .row)) e ∙ swap-first first (s .count) (omega arith) (omega arith) (s .cells) (s .row) (omega arith) (omega arith) ∙ only (s .count) (omega arith) r-in (omega arith)
+            | no d ↦ swap-other first (s .count) (omega arith) (omega arith) (s .cells) (s .row) j (omega arith) (omega arith) d (omega arith) ∙ only j (omega arith) r d
+          ];
+        }
+
+    negated : Closing C s (negateColumn exchanged (s .count))
+    negated =
+        let wide = h .wide in
+        let row = row-low s h in
+        let high = first-high in
+        record {
+          faithful = faithful-operation (swapped .faithful) (cell (negateColumn exchanged (s .count)))
+              (negate-operation exchanged (swap-length first (s .count) (omega arith) (omega arith) (s .cells) ∙ h .cells-long) (s .count) N wide (s .count) (omega arith) r-in);
+          zeros = λ j l r. negate-other (s .count) (omega arith) exchanged (s .row) j (omega arith) (omega arith) (omega arith) ∙ swapped .zeros j l r;
+        }
+
+  pub closing : Closing C s (closeTable (s .cells) (s .row) first (s .count))
+  unfolding swapBy negateBy
+  closing = go (isZero (entry first)) refl
+    where
+      turn : s .count < N → (b : Bool) → Closing C s (negateBy b (swapColumns (s .cells) first (s .count)) (s .count))
+      turn l true = negated l
+      turn l false = swapped l
+
+      go : (b : Bool) → isZero (entry first) ≡ b → Closing C s (swapBy b (s .cells) (s .row) first (s .count))
+      go true z = none z
+      go false z = turn (inside z) (isNegative (entry first))
+
+-- The closed row ------------------------------------------------------------------------------------------------------
 
 -- a row of s is closed, by `next`: on to the next row, or solved
 closed-right : (C : Table) (s next : State) → next .given .n ≤ 12 → next .outcome ≡ Unfinished → Kept C next → Right C (closed s next .outcome) (closed s next)
@@ -85,7 +171,7 @@ module _ (C : Table) (s : State) (h : Sound s) (k : Kept C s) (goes : s .outcome
     zs-long = k .zs-long;
     faithful = faithful-passed (table .faithful) (h .row-in)
         (λ j l r. elim (ℕ-discrete j (s .count)) [ yes q ↦ ap (cell t (s .row)) q ∙ none | no q ↦ table .zeros j (omega arith) r ])
-        (sym (residual-is s t ∙ ap (λ x. x +ℤ earlier) met ∙ +ℤ-idl earlier));
+        (sym (constant-is s t ∙ ap (λ x. x +ℤ earlier) met ∙ +ℤ-idl earlier));
     fuel = fuel;
   }
 
@@ -104,7 +190,7 @@ module _ (C : Table) (s : State) (h : Sound s) (k : Kept C s) (goes : s .outcome
             (getD-set-same (s .pivots) (s .count) (s .row) 0 (omega arith))
             (λ i l. getD-set-other (s .zs) (s .count) i z (pos 0) (omega arith))
             (ap (λ x. earlier +ℤ e *ℤ x) new
-            ∙ from2 (pos 1) (negsuc 0) exact (residual-is s t) (ring! (earlier ∷ e ∷ z ∷ residualOf s t ∷ constOf (s .given) (s .row) ∷ []) (search quote depth 40 fits 20000) tt));
+            ∙ from2 (pos 1) (negsuc 0) exact (constant-is s t) (ring! (earlier ∷ e ∷ z ∷ residualOf s t ∷ constOf (s .given) (s .row) ∷ []) (search quote depth 40 fits 20000) tt));
         fuel = fuel;
       }
 
