@@ -4,5 +4,14 @@
 --                                                                         and then it writes nothing
 --     Larger        finished-larger  reply-larger  runs-larger            once finished, every larger budget answers the same
 --                   table-larger                                          and leaves the same table
+--     Enough        enough                                                8,076 steps always finish
+--     Right         refuted-accepted  refuted-none  solved-meets          a refutation that the checker accepts, a point that meets
+--                   exactly                                               all rows; refuted exactly when there is none
+--     TooLarge      too-large-next  too-large-is                          too large exactly when a step would pass a bound
+--     Demand        demand                                                demand 3 of a call of `search`, all of the above
 pub mod Unfinished
 pub mod Larger
+pub mod Enough
+pub mod Right
+pub mod TooLarge
+pub mod Demand

@@ -6,7 +6,7 @@
 --     Step      stepOf                                              one step: Reduce or Close
 --     Run       after                                               many steps
 --     Answer    searchReply  searchVector  searchPoint  tableRun    what the two calls answer, and what their runs then hold
---     Promises  Outnumber                                           what the theorems of proofs/Theorems say of them
+--     Promises  Outnumber  Decided  Exceeds  Demand                 what the theorems of proofs/Theorems say of them
 --     Code      what the private functions ask for; a reader of the definitions can pass it over
 pub mod Table
 pub mod State

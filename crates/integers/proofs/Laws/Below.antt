@@ -4,6 +4,7 @@
 --               all-more   any-more       at the code's n + 1
 --     All       all-each       true: true at each place      all-true     the other way round
 --               all-false      false at a place: false       all-same     the same tests: the same answer
+--               all-place      false: a place at which it is false
 --               all-split      at a + b places: at the first a and at the b from place a on
 --     Any       any-each       false: false at each place    any-false    the other way round
 --               any-true       true at a place: true         any-place    true: a place at which it is true
@@ -69,6 +70,15 @@ all-false (suc n) t i h e = elim (ℕ-discrete i n) [
   | yes r ↦ and-false (allBelow n t) (t n) (ap t (sym r) ∙ e)
   | no r ↦ ap (λ (a : Bool). a && t n) (all-false n t i (omega arith) e)
 ]
+
+pub all-place : (n : ℕ) (t : ℕ → Bool) → allBelow n t ≡ false → (i : ℕ) × (i < n) × (t i ≡ false)
+unfolding allBelow
+all-place zero t e = absurd (true≢false e)
+all-place (suc n) t e = go (allBelow n t) refl e (all-place n t)
+  where
+    go : (a : Bool) → allBelow n t ≡ a → a && t n ≡ false → (allBelow n t ≡ false → (i : ℕ) × (i < n) × (t i ≡ false)) → (i : ℕ) × (i < suc n) × (t i ≡ false)
+    go true r f earlier = (n, omega arith, f)
+    go false r f earlier = let p = earlier r in (p .0, omega (arith, p .1), p .2)
 
 pub all-same : (n : ℕ) (t u : ℕ → Bool) → ((i : ℕ) → i < n → t i ≡ u i) → allBelow n t ≡ allBelow n u
 unfolding allBelow

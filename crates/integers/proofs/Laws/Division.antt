@@ -8,6 +8,7 @@
 --                   rem-le         |a % b| ≤ |a|
 --                   rem-lt         b ≠ 0: |a % b| < |b|
 --                   rem-halves     b ≠ 0 and |b| ≤ |a|: 2 |a % b| < |a|
+--                   quot-halves    b ≠ 0 and |b| ≤ |a|: 2 |a - (a / b) b| < |a|
 --     Sign          rem-nonneg     0 ≤ a: 0 ≤ a % b
 --                   rem-nonpos     a ≤ 0: a % b ≤ 0
 --     Exact         quot-mul       b ≠ 0: (k b) / b = k
@@ -78,6 +79,9 @@ mod-halves a b h k =
 
 pub rem-halves : (a b : ℤ) → 0 < natAbs b → natAbs b ≤ natAbs a → 2 * natAbs (remZ a b) < natAbs a
 rem-halves a b h k = omega (arith, natAbs-rem a b, mod-halves (natAbs a) (natAbs b) h k)
+
+pub quot-halves : (a b : ℤ) → 0 < natAbs b → natAbs b ≤ natAbs a → 2 * natAbs (a -ℤ quotZ a b *ℤ b) < natAbs a
+quot-halves a b h k = subst (λ x. 2 * natAbs x < natAbs a) (sym (rem-is a b)) (rem-halves a b h k)
 
 -- Sign -----------------------------------------------------------------------------------------------------------------
 

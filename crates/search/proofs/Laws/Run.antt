@@ -1,29 +1,36 @@
 -- Laws of `after b s`, the state after b steps from s or after the last.
 --
+--     is-unfinished   an outcome that tests as unfinished is
 --     after-none      no step: s itself
 --     after-more      unfinished after b steps: one more step gives the state after b + 1
 --     after-stops     finished after b steps: the same state after any more
+--     LastStep s b    the step that ends the search from s within b steps
+--     after-last      unfinished at first and finished after b steps: there is such a step
 --     after-count     unfinished after b steps: they are b, and counted so
+--     after-given     what is given stays
 --     after-sound     unfinished after b steps from a sound state: still sound
 --
 -- Assumes nothing.
-use mathlib.Core.Path.{_≡_, refl, sym, _∙_, ap, subst, subst⁻¹}
+use mathlib.Core.Path.{_≡_, refl, sym, _∙_, ap, subst⁻¹}
 use mathlib.Core.Bool.{Bool, true, false, false≢true, true≢false}
-use Prim.Native.Nat.{ℕ, zero, suc, _+_, _-_, _≤_}
+use Prim.Native.Nat.{ℕ, zero, suc, _+_, _-_, _<_, _≤_}
 use native.Mathlib.Numerals.{add-one}
 use native.Mathlib.Omega.{arith}
 use Rattle.search.specs.State.{State, Outcome, Unfinished, TooLarge, Refuted, Solved}
 use Rattle.search.specs.Step.{stepOf}
 use Rattle.search.specs.Run.{isUnfinished, nextBy, after}
 use Rattle.search.specs.Code.{Sound}
-use Rattle.search.proofs.Laws.Sound.{step-counts, step-sound}
+use Rattle.search.proofs.Laws.Sound.{step-onward, step-sound}
+
+pub is-unfinished : (o : Outcome) → isUnfinished o ≡ true → o ≡ Unfinished
+is-unfinished Unfinished u = refl
+is-unfinished TooLarge u = absurd (false≢true u)
+is-unfinished (Refuted q) u = absurd (false≢true u)
+is-unfinished Solved u = absurd (false≢true u)
 
 next-goes : (o : Outcome) (s : State) → isUnfinished o ≡ true → nextBy o s ≡ stepOf s
 unfolding nextBy
-next-goes Unfinished s u = refl
-next-goes TooLarge s u = absurd (false≢true u)
-next-goes (Refuted q) s u = absurd (false≢true u)
-next-goes Solved s u = absurd (false≢true u)
+next-goes o s u = ap (λ (x : Outcome). nextBy x s) (is-unfinished o u)
 
 next-stops : (o : Outcome) (s : State) → isUnfinished o ≡ false → nextBy o s ≡ s
 unfolding nextBy
@@ -61,6 +68,20 @@ module _ (s : State) where
   pub after-stops : (b c : ℕ) → b ≤ c → goes b ≡ false → after c s ≡ after b s
   after-stops b c l u = stops-for b (c - b) c (omega arith) u
 
+  pub record LastStep (b : ℕ) : Type 0 where
+    pub k : ℕ
+    pub within-b : k < b
+    pub unfinished : goes k ≡ true
+    pub ends : after (k + 1) s ≡ after b s
+
+  pub after-last : goes 0 ≡ true → (b : ℕ) → goes b ≡ false → LastStep b
+  after-last u zero f = absurd (true≢false (sym u ∙ f))
+  after-last u (suc b) f = go (goes b) refl (after-last u b)
+    where
+      go : (t : Bool) → goes b ≡ t → (goes b ≡ false → LastStep b) → LastStep (suc b)
+      go true e earlier = record { k = b; within-b = omega arith; unfinished = e; ends = ap (λ (k : ℕ). after k s) (add-one b) }
+      go false e earlier = let l = earlier e in let h = l .within-b in record { k = l .k; within-b = omega arith; unfinished = l .unfinished; ends = l .ends ∙ sym (stops b e) }
+
   -- what is unfinished after b + 1 steps was so after b
   before : (b : ℕ) → goes (suc b) ≡ true → goes b ≡ true
   before b u = go (goes b) refl
@@ -75,8 +96,19 @@ module _ (s : State) where
   after-count (suc b) u =
       let g = before b u in
       let e = after-count b g in
-      let f = ap (λ (t : State). t .steps) (goes-on b g) ∙ step-counts (after b s) in
+      let f = ap (λ (t : State). t .steps) (goes-on b g) ∙ step-onward (after b s) .counts in
       omega arith
+
+  pub after-given : (b : ℕ) → after b s .given ≡ s .given
+  unfolding after nextBy
+  after-given zero = refl
+  after-given (suc b) = go (after b s .outcome) ∙ after-given b
+    where
+      go : (o : Outcome) → nextBy o (after b s) .given ≡ after b s .given
+      go Unfinished = step-onward (after b s) .given
+      go TooLarge = refl
+      go (Refuted q) = refl
+      go Solved = refl
 
   pub after-sound : Sound s → (b : ℕ) → goes b ≡ true → Sound (after b s)
   unfolding after

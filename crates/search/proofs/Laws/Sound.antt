@@ -1,12 +1,17 @@
 -- What a step asks of its state, it leaves to the next.
 --
---     Step       step-counts       a step counts as one
+--     Close      close-bounded  close-length  close-kept     the closed table: bounded and as long again, its other columns kept
+--                close-pivot       a column that is not 0 in the row becomes the pivot, above 0
+--     Columns    first-is  second-is  first-in               what the two columns are that a step takes
+--                count-low  row-low                          the number of pivots and the row stay below 12
+--                entry-positive    the entry of a closed row is above 0, where it is not 0
+--     Step       step-onward       a step counts as one and keeps what is given
 --                step-reducible    what Reduce asks, where there is a second column
 --                step-closable     what Close asks
 --                step-sound        a step that leaves the search unfinished leaves a sound state
 --
 -- Assumes nothing.
-use mathlib.Core.Path.{_≡_, refl, sym, _∙_, ap, subst, subst⁻¹}
+use mathlib.Core.Path.{_≡_, refl, sym, _∙_, ap, subst⁻¹}
 use mathlib.Core.Bool.{Bool, true, false, false≢true}
 use mathlib.Core.List.{List}
 use Prim.Native.Nat.{ℕ, _+_, _*_, _-_, _<_, _≤_}
@@ -33,24 +38,31 @@ use Rattle.search.specs.Code.{lastCount, Sound, Reducible, Closable}
 use Rattle.search.proofs.Laws.Table.{subtract-length, subtract-other, subtract-bounded, swap-length, swap-second, swap-other, swap-bounded, negate-length, negate-cell, negate-other, negate-bounded, bounded-set}
 use Rattle.search.proofs.Laws.Scan.{Least, least-is, least-zero, Other, other-is}
 
--- Counts ---------------------------------------------------------------------------------------------------------------
+-- Onward ---------------------------------------------------------------------------------------------------------------
 
-solve-counts : (t : Bool) (s next : State) → next .steps ≡ s .steps + 1 → solveBy t s next .steps ≡ s .steps + 1
-unfolding solveBy tooLarge
-solve-counts true s next e = e
-solve-counts false s next e = refl
+pub record Onward (s next : State) : Type 0 where
+  pub counts : next .steps ≡ s .steps + 1
+  pub given : next .given ≡ s .given
 
-closed-counts : (s next : State) → next .steps ≡ s .steps + 1 → closed s next .steps ≡ s .steps + 1
-unfolding closed lastBy
-closed-counts s next e = go (eqb (next .row) (next .given .m))
+large-onward : (s : State) → Onward s (tooLarge s)
+unfolding tooLarge
+large-onward s = record { counts = refl; given = refl }
+
+closed-onward : (s next : State) → Onward s next → Onward s (closed s next)
+unfolding closed lastBy solveBy
+closed-onward s next o = last (eqb (next .row) (next .given .m))
   where
-    go : (t : Bool) → lastBy t s next .steps ≡ s .steps + 1
-    go true = solve-counts (allBelow (next .given .n) (λ k. within bound (placeOf next k))) s next e
-    go false = e
+    solve : (t : Bool) → Onward s (solveBy t s next)
+    solve true = record { counts = o .counts; given = o .given }
+    solve false = large-onward s
 
-close-counts : (s : State) (j : ℕ) → closeOf s j .steps ≡ s .steps + 1
-unfolding closeOf closeBy goOnBy placeBy refuteBy tooLarge passed placed
-close-counts s j = way (divides e (residualOf s t))
+    last : (t : Bool) → Onward s (lastBy t s next)
+    last true = solve (allBelow (next .given .n) (λ k. within bound (placeOf next k)))
+    last false = o
+
+close-onward : (s : State) (j : ℕ) → Onward s (closeOf s j)
+unfolding closeOf closeBy goOnBy placeBy refuteBy passed placed
+close-onward s j = way (divides e (residualOf s t))
   where
     t : List ℤ
     t = closeTable (s .cells) (s .row) j (s .count)
@@ -61,32 +73,32 @@ close-counts s j = way (divides e (residualOf s t))
     z : ℤ
     z = quotZ (residualOf s t) e
 
-    refute : (b : Bool) (v : Vector) → refuteBy b s t v .steps ≡ s .steps + 1
-    refute true v = refl
-    refute false v = refl
+    refute : (b : Bool) (v : Vector) → Onward s (refuteBy b s t v)
+    refute true v = record { counts = refl; given = refl }
+    refute false v = large-onward s
 
-    place : (b : Bool) → placeBy b s t z .steps ≡ s .steps + 1
-    place true = closed-counts s (placed s t z) refl
-    place false = refl
+    place : (b : Bool) → Onward s (placeBy b s t z)
+    place true = closed-onward s (placed s t z) (record { counts = refl; given = refl })
+    place false = large-onward s
 
-    go-on : (b : Bool) → goOnBy b s t e .steps ≡ s .steps + 1
-    go-on true = closed-counts s (passed s t) refl
+    go-on : (b : Bool) → Onward s (goOnBy b s t e)
+    go-on true = closed-onward s (passed s t) (record { counts = refl; given = refl })
     go-on false = place (within bound z)
 
-    way : (b : Bool) → closeBy b s t e .steps ≡ s .steps + 1
+    way : (b : Bool) → Onward s (closeBy b s t e)
     way true = go-on (isZero e)
     way false = refute (vectorOf s t e .ok) (vectorOf s t e)
 
-pub step-counts : (s : State) → stepOf s .steps ≡ s .steps + 1
-unfolding stepOf stepBy reduceOf reduceBy tooLarge
-step-counts s = way (eqb (secondColumn s) (firstColumn s))
+pub step-onward : (s : State) → Onward s (stepOf s)
+unfolding stepOf stepBy reduceOf reduceBy
+step-onward s = way (eqb (secondColumn s) (firstColumn s))
   where
-    reduce : (b : Bool) (first second : ℕ) (q : ℤ) → reduceBy b s first second q .steps ≡ s .steps + 1
-    reduce true first second q = refl
-    reduce false first second q = refl
+    reduce : (b : Bool) (first second : ℕ) (q : ℤ) → Onward s (reduceBy b s first second q)
+    reduce true first second q = record { counts = refl; given = refl }
+    reduce false first second q = large-onward s
 
-    way : (b : Bool) → stepBy b s (firstColumn s) (secondColumn s) .steps ≡ s .steps + 1
-    way true = close-counts s (firstColumn s)
+    way : (b : Bool) → Onward s (stepBy b s (firstColumn s) (secondColumn s))
+    way true = close-onward s (firstColumn s)
     way false =
         let q = quotient (cell (s .cells) (s .row) (secondColumn s)) (cell (s .cells) (s .row) (firstColumn s)) in
         reduce (subtractionFits (s .cells) (firstColumn s) (secondColumn s) q) (firstColumn s) (secondColumn s) q
@@ -175,10 +187,10 @@ module _ (s : State) (h : Sound s) where
   abbrev span : ℕ
   span = s .given .width - s .count
 
-  first-is : Least row (s .count) span (firstColumn s)
+  pub first-is : Least row (s .count) span (firstColumn s)
   first-is = least-is row (s .count) span
 
-  second-is : Other row (firstColumn s) (s .count) span (secondColumn s)
+  pub second-is : Other row (firstColumn s) (s .count) span (secondColumn s)
   second-is = other-is row (firstColumn s) (s .count) span
 
   pub first-in : firstColumn s < 24
@@ -187,10 +199,10 @@ module _ (s : State) (h : Sound s) where
     | no l ↦ let a = first-is .high in let c = h .count-in in let r = h .row-in in let m = h .few-m in omega arith
   ]
 
-  count-low : s .count < 12
+  pub count-low : s .count < 12
   count-low = let c = h .count-in in let r = h .row-in in let m = h .few-m in omega arith
 
-  row-low : s .row < 12
+  pub row-low : s .row < 12
   row-low = let r = h .row-in in let m = h .few-m in omega arith
 
   -- an entry 0 in the first column says that all are 0, and the first column is that of the next pivot
@@ -291,8 +303,8 @@ module _ (s : State) (h : Sound s) where
     C-pivot : (k : ℕ) → k < s .count → Positive (cell C (pivotOf s k) k)
     C-pivot = closed-pivot (firstColumn s) first-in (first-is .low)
 
-    E-positive : isZero E ≡ false → Positive E
-    E-positive z =
+    pub entry-positive : isZero E ≡ false → Positive E
+    entry-positive z =
         let i = row-low in
         let c = count-low in
         close-pivot (s .cells) (s .row) (firstColumn s) (s .count) first-in (r-in (firstColumn s) first-in (first-is .low))
@@ -343,7 +355,7 @@ module _ (s : State) (h : Sound s) where
           | no e ↦ subst⁻¹ (λ (i : ℕ). i < 12) (old k e) (h .pivot-row k (omega arith))
         ];
         pivot = λ k l. elim (ℕ-discrete k (s .count)) [
-          | yes e ↦ subst⁻¹ (λ (i : ℕ). Positive (cell C (getD (set (s .pivots) (s .count) (s .row)) i 0) i)) e (subst⁻¹ (λ (i : ℕ). Positive (cell C i (s .count))) new (E-positive some))
+          | yes e ↦ subst⁻¹ (λ (i : ℕ). Positive (cell C (getD (set (s .pivots) (s .count) (s .row)) i 0) i)) e (subst⁻¹ (λ (i : ℕ). Positive (cell C i (s .count))) new (entry-positive some))
           | no e ↦ subst⁻¹ (λ (i : ℕ). Positive (cell C i k)) (old k e) (C-pivot k (omega arith))
         ];
       }

@@ -13,14 +13,17 @@
 --                checked-in-range  unit-in-range  back-in-range  back-all-in-range  vector-in-range
 --                                   vectors that are `ok` are in range
 --                range-bounded      the numerators are then Bounded
+--                OutOfRange v       a numerator or q is above 1,000,000 in magnitude: numerator-out or denominator-out
+--                vector-out         a vector that is not `ok` is out of range, and only then: out-vector
 --
 -- Assumes nothing.
 use mathlib.Core.Path.{_≡_, refl, sym, ap, ap₂, subst⁻¹, _∙_}
 use mathlib.Core.List.{List, [], _∷_}
 use mathlib.Core.Bool.{Bool, true, false, cond, _&&_}
-use Prim.Native.Nat.{ℕ, zero, suc, _≤_}
+use Prim.Native.Nat.{ℕ, zero, suc, _<_, _≤_}
 use native.Mathlib.Omega.{arith}
 use native.Mathlib.Decide.{decLt}
+use borrow.Author.Tests.{leb-false}
 use lib.Dec.{eqb}
 use lib.ListN.{length}
 use lib.IntN.{ℤ, pos, negℤ, natAbs, _*ℤ_, zero-*ℤ}
@@ -30,6 +33,7 @@ use Rattle.integers.specs.Divisibility.{_∣ℤ_, divides}
 use Rattle.integers.specs.Gcd.{gcdℤ}
 use Rattle.integers.specs.NonDivisor.{nonDivisor}
 use Rattle.integers.specs.Sum.{dot}
+use Rattle.integers.specs.Below.{allBelow}
 use Rattle.integers.specs.Run.{at, tabulate}
 use Rattle.integers.proofs.Laws.Ring.{one-mul}
 use Rattle.integers.proofs.Laws.Normaliser.{ring!, quote}
@@ -37,7 +41,8 @@ use Rattle.integers.proofs.Laws.Order.{positive-ne, positive-of}
 use Rattle.integers.proofs.Laws.Division.{quot-mul}
 use Rattle.integers.proofs.Laws.Divisibility.{∣-refl, ∣-antisym, ∣-exact, divides-true}
 use Rattle.integers.proofs.Laws.Gcd.{gcd-left, gcd-right, gcd-greatest}
-use Rattle.integers.proofs.Laws.Decide.{by-and, by-all, by-within}
+use Rattle.integers.proofs.Laws.Below.{all-place}
+use Rattle.integers.proofs.Laws.Decide.{Decides, decides-false, by-and, by-all, by-within}
 use Rattle.integers.proofs.Laws.Run.{at-end, tabulate-length}
 use Rattle.problem.specs.WellFormed.{million}
 use Rattle.search.specs.Table.{cell, Bounded}
@@ -136,10 +141,17 @@ pub record InRange (v : Vector) : Type 0 where
 pub range-bounded : {v : Vector} → InRange v → Bounded (v .p)
 range-bounded {v} h = record { place = λ i. omega (arith, h .numerators i) }
 
+-- the test that a vector carries
+abbrev test : List ℤ → ℤ → Bool
+test p q = allBelow 12 (λ i. within million (at p i)) && within million q
+
+by-test : (p : List ℤ) (q : ℤ) → Decides (test p q) (((i : ℕ) → i < 12 → natAbs (at p i) ≤ million) × (natAbs q ≤ million))
+by-test p q = by-and (by-all 12 (λ i. within million (at p i)) (λ i. natAbs (at p i) ≤ million) (λ i. by-within million (at p i))) (by-within million q)
+
 pub checked-in-range : (p : List ℤ) (q : ℤ) → length p ≡ 12 → checked p q .ok ≡ true → InRange (checked p q)
 unfolding checked
 checked-in-range p q long ok =
-    let h = by-and (by-all 12 (λ i. within million (at p i)) (λ i. natAbs (at p i) ≤ million) (λ i. by-within million (at p i))) (by-within million q) .yes ok in
+    let h = by-test p q .yes ok in
     record {
       numerators = λ i. elim (decLt i 12) [
         | yes l ↦ h .0 i l
@@ -185,3 +197,48 @@ vector-in-range s t e h = go (w .ok && isZero e) h
     go true k =
         checked-in-range (w .p) (pos (nonDivisor (dot (s .given .m) (at (w .p)) (constOf (s .given)))))
         (back-length (s .count) (s .given .m) t (pivotOf s) first (unit-length (s .row) e)) k
+
+-- a vector carries the test of its own numbers
+abbrev Tested : Vector → Type 0
+Tested v = v .ok ≡ test (v .p) (v .q)
+
+back-tested : (k m : ℕ) (t : List ℤ) (pivot : ℕ → ℕ) (v : Vector) → Tested v → Tested (backFrom k m t pivot v)
+unfolding backFrom backBy backOne checked
+back-tested zero m t pivot v h = h
+back-tested (suc k) m t pivot v h = back-tested k m t pivot (backBy (v .ok) m t (pivot k) k v) (go (v .ok))
+  where
+    go : (b : Bool) → Tested (backBy b m t (pivot k) k v)
+    go true = refl
+    go false = h
+
+vector-tested : (s : State) (t : List ℤ) (e : ℤ) → Tested (vectorOf s t e)
+unfolding vectorOf denominatorBy unitVector checked
+vector-tested s t e = go (w .ok && isZero e)
+  where
+    w : Vector
+    w = backFrom (s .count) (s .given .m) t (pivotOf s) (unitVector (s .row) e)
+
+    go : (b : Bool) → Tested (denominatorBy b s w)
+    go true = refl
+    go false = back-tested (s .count) (s .given .m) t (pivotOf s) (unitVector (s .row) e) refl
+
+pub data OutOfRange (v : Vector) : Type 0 where
+  numerator-out : (i : ℕ) → i < 12 → million < natAbs (at (v .p) i) → OutOfRange v
+  denominator-out : million < natAbs (v .q) → OutOfRange v
+
+pub vector-out : (s : State) (t : List ℤ) (e : ℤ) → vectorOf s t e .ok ≡ false → OutOfRange (vectorOf s t e)
+vector-out s t e h = go (allBelow 12 (λ i. within million (at (v .p) i))) refl (sym (vector-tested s t e) ∙ h)
+  where
+    v : Vector
+    v = vectorOf s t e
+
+    go : (b : Bool) → allBelow 12 (λ i. within million (at (v .p) i)) ≡ b → b && within million (v .q) ≡ false → OutOfRange v
+    go true p q = denominator-out (leb-false (natAbs (v .q)) million q)
+    go false p q = let r = all-place 12 (λ i. within million (at (v .p) i)) p in numerator-out (r .0) (r .1) (leb-false (natAbs (at (v .p) (r .0))) million (r .2))
+
+pub out-vector : (s : State) (t : List ℤ) (e : ℤ) → OutOfRange (vectorOf s t e) → vectorOf s t e .ok ≡ false
+out-vector s t e out = vector-tested s t e ∙ decides-false (by-test (vectorOf s t e .p) (vectorOf s t e .q)) (above out)
+  where
+    above : OutOfRange (vectorOf s t e) → ((i : ℕ) → i < 12 → natAbs (at (vectorOf s t e .p) i) ≤ million) × (natAbs (vectorOf s t e .q) ≤ million) → ⊥
+    above (numerator-out i l g) r = let h = r .0 i l in omega arith
+    above (denominator-out g) r = let h = r .1 in omega arith

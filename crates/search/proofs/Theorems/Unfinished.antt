@@ -16,10 +16,10 @@ use Rattle.problem.specs.Rows.{rowsOf}
 use Rattle.search.specs.State.{State, Outcome, Unfinished, TooLarge, Refuted, Solved, start}
 use Rattle.search.specs.Run.{isUnfinished, after}
 use Rattle.search.specs.Answer.{replyOf, writtenIf, isRefuted, isSolved, searched, searchRefusal, searchReply, searchVector, searchPoint}
-use Rattle.search.specs.Promises.{Outnumber, saysUnfinished}
+use Rattle.search.specs.Promises.{Exactly, Outnumber, saysUnfinished}
 use Rattle.search.proofs.Laws.Run.{after-stops, after-count}
 
-pub outnumbered-is : (s : State) (budget : ℕ) → (isUnfinished (after budget s .outcome) ≡ true → Outnumber s budget) × (Outnumber s budget → isUnfinished (after budget s .outcome) ≡ true)
+pub outnumbered-is : (s : State) (budget : ℕ) → Exactly (isUnfinished (after budget s .outcome) ≡ true) (Outnumber s budget)
 outnumbered-is s budget = (there, λ o. o .each budget (omega arith))
   where
     there : isUnfinished (after budget s .outcome) ≡ true → Outnumber s budget
@@ -43,7 +43,7 @@ module _ (n ma mb : ℕ) (a b : List ℤ) (budget : ℕ) (vector point : List �
       go zero e = refl
       go (suc k) e = absurd (omega arith)
 
-  pub unfinished-is : (saysUnfinished (searchReply n ma mb a b budget vector point) ≡ true → Outnumber first budget) × (Outnumber first budget → saysUnfinished (searchReply n ma mb a b budget vector point) ≡ true)
+  pub unfinished-is : Exactly (saysUnfinished (searchReply n ma mb a b budget vector point) ≡ true) (Outnumber first budget)
   unfinished-is = ((λ e. outnumbered-is first budget .0 (sym said ∙ e)), (λ o. said ∙ outnumbered-is first budget .1 o))
 
   pub unfinished-count : Outnumber first budget → final .steps ≡ budget
