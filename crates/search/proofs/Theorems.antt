@@ -1,5 +1,6 @@
 -- What the search's definitions promise, in the terms of specs/, one subject a file.
 --
+--     Refused       search-refused-is  table-refused-is                   each refusal exactly in its case, in the paper's order
 --     Unfinished    unfinished-is  unfinished-count  unfinished-writes    unfinished exactly when the steps outnumber the budget,
 --                                                                         and then it writes nothing
 --     Larger        finished-larger  reply-larger  runs-larger            once finished, every larger budget answers the same
@@ -9,6 +10,7 @@
 --                   exactly                                               all rows; refuted exactly when there is none
 --     TooLarge      too-large-next  too-large-is                          too large exactly when a step would pass a bound
 --     Demand        demand                                                demand 3 of a call of `search`, all of the above
+pub mod Refused
 pub mod Unfinished
 pub mod Larger
 pub mod Enough

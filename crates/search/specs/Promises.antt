@@ -4,6 +4,7 @@
 --     saysUnfinished        whether an answer of `search` is "unfinished"
 --     Says r o              the answer r of `search` is no refusal, and its outcome is o
 --     Exactly P Q           P holds exactly when Q does
+--     Refuses Fit k         the case of the refusal k before any step, 0 for none; Fit says that the lent runs have their lengths
 --     mostSteps             8,076
 --     NoPoint, SomePoint    no point meets the rows; some point does
 --     Decided               refuted exactly when no point meets the rows, solved exactly when some point does
@@ -24,7 +25,7 @@ use Rattle.integers.specs.Divisibility.{_∣ℤ_}
 use Rattle.integers.specs.Run.{at}
 use Rattle.problem.specs.Rows.{Rows, sideOf, rowsOf}
 use Rattle.problem.specs.Points.{Meets}
-use Rattle.problem.specs.WellFormed.{million}
+use Rattle.problem.specs.WellFormed.{million, Shape, WellFormed}
 use Rattle.checker.specs.Refutation.{refusal}
 use Rattle.search.specs.Table.{bound, cell, lessTimes}
 use Rattle.search.specs.State.{State, Outcome, Unfinished, TooLarge, Refuted, Solved, start}
@@ -37,6 +38,14 @@ use Rattle.search.specs.declared.Reply.the-variants.{Refused, Answered}
 
 abbrev pub Exactly : Type 0 → Type 0 → Type 0
 Exactly P Q = (P → Q) × (Q → P)
+
+-- Refusals -------------------------------------------------------------------------------------------------------------
+
+pub data Refuses (n ma mb : ℕ) (a b : List ℤ) (Fit : Type 0) : ℕ → Type 0 where
+  shape-fails : (Shape n ma mb a b → ⊥) → Refuses n ma mb a b Fit 1
+  run-fails : Shape n ma mb a b → (Fit → ⊥) → Refuses n ma mb a b Fit 2
+  range-fails : Shape n ma mb a b → Fit → (WellFormed n ma mb a b → ⊥) → Refuses n ma mb a b Fit 3
+  none : WellFormed n ma mb a b → Fit → Refuses n ma mb a b Fit 0
 
 -- Unfinished -----------------------------------------------------------------------------------------------------------
 
