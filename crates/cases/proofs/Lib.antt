@@ -1,2 +1,1 @@
-pub mod CheckedByHand
-pub mod SearchedByHand
+pub mod ByHand

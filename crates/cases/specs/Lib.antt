@@ -1,4 +1,2 @@
--- Cases: the paper's "Checked by hand" cases 1 to 7, marked P, with the answers that it gives.
--- Searches: its cases 8 and 9, marked P, likewise.
+-- Cases: the paper's "Checked by hand" cases that are marked P, with the answers that it gives.
 pub mod Cases
-pub mod Searches
