@@ -1,0 +1,61 @@
+/* Vayalittu's library: the search with its vector or point, with a refutation also its interpolant; and the check of a vector. */
+#include "driver.h"
+#include "vayalittu.h"
+
+#define ENOUGH 8076
+
+static int64_t vectors[DISTINCT][12], denominators[DISTINCT], point[12], coeffs[12];
+static unsigned long steps;
+
+static vayalittu_answer search(size_t k)
+{
+    const problem *p = &problems[k];
+    size_t width = p->n + 2;
+    return vayalittu_search(p->n, p->ma, p->mb, p->a, p->ma * width, p->b, p->mb * width, ENOUGH, vectors[k], p->ma + p->mb, point,
+                            p->n);
+}
+
+static int interpolate(size_t k)
+{
+    const problem *p = &problems[k];
+    size_t width = p->n + 2;
+    vayalittu_answer answer = search(k);
+    steps += answer.steps;
+    denominators[k] = answer.q;
+    if (answer.outcome == 2)
+        return SOLVED;
+    if (answer.outcome != 1)
+        return UNDECIDED;
+    return vayalittu_interpolant(p->n, p->ma, p->mb, p->a, p->ma * width, p->b, p->mb * width, answer.q, vectors[k], p->ma + p->mb,
+                                 coeffs, p->n)
+                       .refusal == 0
+               ? REFUTED
+               : UNDECIDED;
+}
+
+/* The check of a refuted problem's vector; of another problem nothing. */
+static int check(size_t k)
+{
+    const problem *p = &problems[k];
+    size_t width = p->n + 2;
+    if (denominators[k] == 0)
+        return SOLVED;
+    return vayalittu_check(p->n, p->ma, p->mb, p->a, p->ma * width, p->b, p->mb * width, denominators[k], vectors[k],
+                           p->ma + p->mb) == 0
+               ? REFUTED
+               : UNDECIDED;
+}
+
+int main(void)
+{
+    for (size_t f = 0; f < 2; f++) {
+        char checked[32];
+        make_problems(&families[f]);
+        steps = 0;
+        measure("vayalittu", families[f].name, interpolate, 100);
+        fprintf(stderr, "vayalittu %s: %.1f steps a problem\n", families[f].name, (double)steps / (100.0 * ROUNDS * DISTINCT));
+        snprintf(checked, sizeof checked, "check-%s", families[f].name);
+        measure("vayalittu", checked, check, 100);
+    }
+    return 0;
+}
