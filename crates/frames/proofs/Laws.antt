@@ -2,9 +2,13 @@
 --
 --     Text      text written into a run, piece by piece
 --     Hex       lengths and ranges of numbers in hexadecimal
---     Problem   what the refusals before any search say
 --     Signed    two's complement by sums at 64 bits
+--     Problem   what the refusals before any search say
+--     Frames    lengths of frames, and which answer is given when
+--     Zeros     runs of zeros
 pub mod Text
 pub mod Hex
-pub mod Problem
 pub mod Signed
+pub mod Problem
+pub mod Frames
+pub mod Zeros

@@ -5,9 +5,8 @@ ghost use lib.ListN.{length, getD};
 ghost use mir.Syntax.{w32, w64};
 ghost use mir.Val.{toZ, ofZ};
 ghost use Rattle.integers.specs.Below.{allBelow};
-ghost use Rattle.integers.specs.Run.{tabulate};
-ghost use Rattle.frames.specs.Hex.{isDigit, digitOf, valueAt, numberAt, charOf, hex, hexes};
-ghost use Rattle.frames.specs.Problem.{isFrame, isProblem, lineRefusal};
+ghost use Rattle.frames.specs.Hex.{isDigit, digitOf, valueAt, charOf, hex, hexes};
+ghost use Rattle.frames.specs.Problem.{isFrame, isProblem, lineRefusal, budgetOf, numbersAt};
 ghost use Rattle.frames.specs.Answer.{answerMax, refutationFrame, pointFrame, unfinishedFrame, interpolantFrame, refusalFrame, refutedAnswer, outcomeAnswer, replyAnswer, problemAnswer, problemLines, lineEnd, respondEnd, respondRun};
 ghost use Rattle.frames.specs.Code.{Written, Answerable, Readable};
 
@@ -76,7 +75,7 @@ fn solve(
     at: usize,
 ) -> usize
     requires { ⌜ Readable (now line) (length (now a)) (length (now b)) × Answerable n ma mb (now vector) (now point) (now coeffs) (now out) at ⌝ }
-    ensures { λ r. ⌜ Written (now (out .entry)) at (problemAnswer n ma mb (tabulate (length (now (a .entry))) (λ i. numberAt (now (line .entry)) (16 + i * 8))) (tabulate (length (now (b .entry))) (λ i. numberAt (now (line .entry)) (16 + length (now (a .entry)) * 8 + i * 8))) (valueAt (now (line .entry)) 8 8) (now (vector .entry)) (now (point .entry)) (now (coeffs .entry))) (now (out .exit)) r ⌝ }
+    ensures { λ r. ⌜ Written (now (out .entry)) at (problemAnswer n ma mb (numbersAt (now (line .entry)) 16 (length (now (a .entry)))) (numbersAt (now (line .entry)) (16 + length (now (a .entry)) * 8) (length (now (b .entry)))) (budgetOf (now (line .entry))) (now (vector .entry)) (now (point .entry)) (now (coeffs .entry))) (now (out .exit)) r ⌝ }
 {
     read_numbers(line, 16, a);
     read_numbers(line, 16 + a.len() * 8, b);
@@ -110,7 +109,20 @@ fn put_reply(
         search::Reply::Answered(found) => {
             let steps = found.steps;
             let outcome = found.outcome;
-            return put_outcome(outcome, steps, n, ma, mb, a, b, vector, point, coeffs, out, at);
+            return put_outcome(
+                outcome,
+                steps,
+                n,
+                ma,
+                mb,
+                a,
+                b,
+                vector,
+                point,
+                coeffs,
+                out,
+                at,
+            );
         }
     }
 }
@@ -300,7 +312,7 @@ fn is_problem(line: &[u8]) -> bool
 // Reads a run of numbers of 4 bytes each, from a place on.
 fn read_numbers(line: &[u8], at: usize, numbers: &mut [i64])
     requires { ⌜ at + length (now numbers) * 8 ≤ length (now line) ⌝ }
-    ensures { λ r. ⌜ now (numbers .exit) ≡ tabulate (length (now (numbers .entry))) (λ i. numberAt (now (line .entry)) (at + i * 8)) ⌝ }
+    ensures { λ r. ⌜ now (numbers .exit) ≡ numbersAt (now (line .entry)) at (length (now (numbers .entry))) ⌝ }
 {
     let mut i: usize = 0;
     while i < numbers.len() {

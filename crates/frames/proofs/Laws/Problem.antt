@@ -4,13 +4,15 @@
 --     frame-long      a frame has at least 16 characters
 --     Lawful l        the counts are small, and the length of l is what they say
 --     lawful          a line that is not refused is Lawful
+--     Fit             the same of counts as the code has them, and of the two sides that they give
+--     fit             the counts of a line that is not refused Fit
 --
 -- Assumes nothing.
-use mathlib.Core.Path.{_≡_, refl, sym, _∙_, ap}
+use mathlib.Core.Path.{_≡_, refl, sym, _∙_, ap₂}
 use mathlib.Core.Bool.{Bool, true, false, _&&_}
 use mathlib.Core.List.{List}
 use Prim.Native.Nat.{ℕ, zero, suc, _+_, _*_, _%_, _≤_}
-use native.Mathlib.Nat.{mul-le-mul}
+use native.Mathlib.Nat.{mul-le-mul, add-mul}
 use native.Mathlib.Omega.{arith}
 use lib.ListN.{length, getD}
 use lib.Dec.{eqb}
@@ -51,3 +53,26 @@ none false t e = absurd (omega arith)
 pub lawful : (l : List ℕ) → lineRefusal l ≡ 0 → Lawful l
 unfolding lineRefusal
 lawful l e = problem-lawful l (none (isFrame l) (isProblem l) e)
+
+pub record Fit (n ma mb long : ℕ) : Type 0 where
+  pub few-n : n ≤ 12
+  pub few-m : ma + mb ≤ 12
+  pub small-a : sideLong n ma ≤ 168
+  pub small-b : sideLong n mb ≤ 168
+  pub numbers : long ≡ 16 + sideLong n ma * 8 + sideLong n mb * 8
+
+lawful-fit : (n ma mb long : ℕ) → n ≤ 12 → ma + mb ≤ 12 → long ≡ 16 + sideLong n (ma + mb) * 8 → Fit n ma mb long
+lawful-fit n ma mb long h k e = record {
+  few-n = h;
+  few-m = k;
+  small-a = small ma n (omega arith) h;
+  small-b = small mb n (omega arith) h;
+  numbers = let both = add-mul ma mb (n + 2) in omega arith;
+}
+
+module _ (l : List ℕ) {n ma mb : ℕ} (is-n : n ≡ nOf l) (is-ma : ma ≡ maOf l) (is-mb : mb ≡ mbOf l) where
+  pub fit : lineRefusal l ≡ 0 → Fit n ma mb (length l)
+  fit e =
+      let law = lawful l e in
+      lawful-fit n ma mb (length l) (omega (arith, law .few-n)) (omega (arith, law .few-m))
+      (law .long ∙ ap₂ (λ (n m : ℕ). 16 + sideLong n m * 8) (sym is-n) (ap₂ (λ (a b : ℕ). a + b) (sym is-ma) (sym is-mb)))

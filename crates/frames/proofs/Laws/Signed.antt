@@ -21,6 +21,7 @@ minus-is w g h = minus ∙ sym upper
   where
     minus : toZ w64 w -ℤ pos 4294967296 ≡ negsuc (4294967296 - suc w)
     minus = rw (toZ-pos w64 {n = w} (omega arith)) (simp (lt-ltb w 4294967296 h))
+
     upper : toZ w32 w ≡ negsuc (4294967296 - suc w)
     upper = simp (le-ltb w 2147483648 g)
 

@@ -3,11 +3,12 @@
 --     sets-append     one text and then another, from where the first ends: both
 --     sets-set        a place past the text can be set before or after it is written
 --     written-then    the same as sets-append, of Written
+--     written-same    of equal texts
 --     Left            what is left to write, and from where on, so that a text is written in the end
 --     left-more       a piece of what is left is written             left-all    nothing is left: the text is written
 --
 -- Assumes nothing.
-use mathlib.Core.Path.{_≡_, refl, sym, _∙_, ap, ap₂}
+use mathlib.Core.Path.{_≡_, refl, sym, _∙_, ap, ap₂, subst}
 use mathlib.Core.List.{List, [], _∷_, _++_}
 use Prim.Native.Nat.{ℕ, suc, _+_, _≤_}
 use native.Mathlib.Nat.{add-zero}
@@ -32,6 +33,9 @@ written-then {l} {m} {r} {i} {p} {q} u v f g = record {
   run = g .run ∙ ap₂ (λ (m : List ℕ) (p : ℕ). sets m p v) (f .run) (f .place) ∙ sets-append u v l i;
   place = let a = f .place in let b = g .place in let n = length-append u v in omega arith;
 }
+
+pub written-same : {l m u v : List ℕ} {i p : ℕ} → u ≡ v → Written l i u m p → Written l i v m p
+written-same {l} {m} {i = i} {p = p} e f = subst (λ (t : List ℕ). Written l i t m p) e f
 
 pub record Left (before : List ℕ) (at : ℕ) (text now : List ℕ) (place : ℕ) (rest : List ℕ) : Type 0 where
   pub run : sets now place rest ≡ sets before at text

@@ -1,80 +1,89 @@
+-- `frames::put_outcome` meets its contract in each of the four cases. Assumes nothing.
+use mathlib.Core.Path.{sym, _∙_, ap}
+use mathlib.Core.List.{List}
+use Prim.Native.Nat.{ℕ}
+use lib.IntN.{ℤ}
+use Rattle.integers.proofs.Laws.Bits.{stored-is}
+use Rattle.search.specs.declared.Outcome.{Outcome}
+use Rattle.frames.specs.Answer.{refutedAnswer, outcomeAnswer}
+use Rattle.frames.proofs.Laws.Text.{written-same}
 use borrow.Author.Needs.{needs}
 use Rattle.frames.proofs.put_outcome.Statement.{statement}
 use Rattle.frames.proofs.put_outcome.Tie as tie
-use Rattle.frames.proofs.put_outcome.Reads as reads
-use Rattle.frames.proofs.put_outcome.Lts as lts
-use Rattle.frames.proofs.put_point.Reads as put-point-reads
-use Rattle.frames.proofs.put_refusal.Reads as put-refusal-reads
-use Rattle.frames.proofs.put_refuted.Reads as put-refuted-reads
-use Rattle.frames.proofs.put_unfinished.Reads as put-unfinished-reads
 
--- src/lib.rt:137:42
+-- the answer to an outcome
+abbrev text : tie.Start → Outcome → List ℕ
+text s o =
+    outcomeAnswer o (s .args .steps) (s .args .n) (s .args .ma) (s .args .mb) (s .args .a .now) (s .args .b .now) (s .args .vector .now) (s .args .point .now) (s .args .coeffs .now)
+
 enum-told : tie.Need-enum-told
 enum-told c = search needs
 
--- src/lib.rt:137:13
 put-unfinished-requires : tie.Need-put-unfinished-requires
 put-unfinished-requires c κs = search needs
 
--- src/lib.rt:137:13
 same-length : tie.Need-same-length
 same-length c = search needs
 
--- src/lib.rt:137:13
 returns : tie.Need-returns
-returns c = ?
+returns c =
+    let put = c .before .before in
+    let told = put .before .before in
+    written-same (sym (ap (text (told .before .before .before)) (told .enum-told .given .1))) (put .put-unfinished .ensures)
 
--- src/lib.rt:140:42
 enum-told-2 : tie.Need-enum-told-2
 enum-told-2 c = search needs
 
--- src/lib.rt:140:13
 put-refusal-requires : tie.Need-put-refusal-requires
 put-refusal-requires c κs = search needs
 
--- src/lib.rt:140:13
 same-length-2 : tie.Need-same-length-2
 same-length-2 c = search needs
 
--- src/lib.rt:140:13
 returns-2 : tie.Need-returns-2
-returns-2 c = ?
+returns-2 c =
+    let put = c .before .before in
+    let told = put .before .before in
+    written-same (sym (ap (text (told .before .before .before)) (told .enum-told2 .given .1))) (put .put-refusal .ensures)
 
--- src/lib.rt:142:34
 enum-known-outcome : tie.Need-enum-known-outcome
 enum-known-outcome c = search needs
 
--- src/lib.rt:143:13
 put-refuted-requires : tie.Need-put-refuted-requires
 put-refuted-requires c κs = search needs
 
--- src/lib.rt:143:13
 same-length-3 : tie.Need-same-length-3
 same-length-3 c = search needs
 
--- src/lib.rt:143:13
 same-length-4 : tie.Need-same-length-4
 same-length-4 c = search needs
 
--- src/lib.rt:143:13
 returns-3 : tie.Need-returns-3
-returns-3 c = ?
+returns-3 c =
+    let put = c .before .before .before in
+    let told = put .before .before .before in
+    let known = told .before in
+    let s = known .before .before .before in
+    written-same
+    (ap (λ (q : ℤ). refutedAnswer q (s .args .steps) (s .args .n) (s .args .ma) (s .args .mb) (s .args .a .now) (s .args .b .now) (s .args .vector .now) (s .args .coeffs .now))
+    (stored-is (record { sfits = told .known-told .given .0 .1 }))
+    ∙ sym (ap (text s) (known .outcome .given .1)))
+    (put .put-refuted .ensures)
 
--- src/lib.rt:146:47
 enum-told-3 : tie.Need-enum-told-3
 enum-told-3 c = search needs
 
--- src/lib.rt:146:13
 put-point-requires : tie.Need-put-point-requires
 put-point-requires c κs = search needs
 
--- src/lib.rt:146:13
 same-length-5 : tie.Need-same-length-5
 same-length-5 c = search needs
 
--- src/lib.rt:146:13
 returns-4 : tie.Need-returns-4
-returns-4 c = ?
+returns-4 c =
+    let put = c .before .before in
+    let told = put .before .before in
+    written-same (sym (ap (text (told .before .before .before)) (told .enum-told3 .given .1))) (put .put-point .ensures)
 
 pub put-outcome-spec : {M : Type 1} → statement M
 put-outcome-spec =

@@ -1,4 +1,7 @@
+-- `frames::put_point` meets its contract: its parts stand one after the other. Assumes nothing.
 use borrow.Author.Needs.{needs}
+use Rattle.frames.specs.Answer.{pointFrame}
+use Rattle.frames.proofs.Laws.Text.{written-then}
 use Rattle.frames.proofs.put_point.Statement.{statement}
 use Rattle.frames.proofs.put_point.Tie as tie
 
@@ -21,7 +24,16 @@ same-length : tie.Need-same-length
 same-length c = search needs
 
 returns : tie.Need-returns
-returns c = ?
+unfolding pointFrame
+returns c =
+    let end = c .before .before in
+    let places = end .before .before .before .before in
+    let variables = places .before .before .before .before in
+    let count = variables .before .before .before .before in
+    let kind = count .before .before .before .before in
+    written-then _ _ (kind .put-hex .ensures .0)
+    (written-then _ _ (count .put-hex2 .ensures .0)
+    (written-then _ _ (variables .put-hex3 .ensures .0) (written-then _ _ (places .put-numbers .ensures .0) (end .put-end .ensures))))
 
 pub put-point-spec : {M : Type 1} → statement M
 put-point-spec =

@@ -1,4 +1,13 @@
+-- `frames::put_refutation` meets its contract: its parts stand one after the other. Assumes nothing.
+use mathlib.Core.Path.{_∙_, ap}
+use Prim.Native.Nat.{ℕ}
 use borrow.Author.Needs.{needs}
+use mir.Syntax.{w64}
+use mir.Val.{ofZ}
+use Rattle.integers.proofs.Laws.Bits.{stored-is}
+use Rattle.frames.specs.Hex.{hex}
+use Rattle.frames.specs.Answer.{refutationFrame}
+use Rattle.frames.proofs.Laws.Text.{written-then, written-same}
 use Rattle.frames.proofs.put_refutation.Statement.{statement}
 use Rattle.frames.proofs.put_refutation.Tie as tie
 
@@ -27,7 +36,21 @@ same-length : tie.Need-same-length
 same-length c = search needs
 
 returns : tie.Need-returns
-returns c = ?
+unfolding refutationFrame
+returns c =
+    let end = c .before .before in
+    let numerators = end .before .before .before .before in
+    let denominator = numerators .before .before .before .before in
+    let bits = denominator .before .before in
+    let rows = bits .before .before .before in
+    let count = rows .before .before .before .before in
+    let kind = count .before .before .before .before in
+    let q = bits .bits-of .ensures ∙ ap (ofZ w64) (stored-is (kind .before .before .before .fits .q)) in
+    written-then _ _ (kind .put-hex .ensures .0)
+    (written-then _ _ (count .put-hex2 .ensures .0)
+    (written-then _ _ (rows .put-hex3 .ensures .0)
+    (written-then _ _ (written-same (ap (hex 8) q) (denominator .put-hex4 .ensures .0))
+    (written-then _ _ (numerators .put-numbers .ensures .0) (end .put-end .ensures)))))
 
 pub put-refutation-spec : {M : Type 1} → statement M
 put-refutation-spec =
