@@ -5,10 +5,14 @@
 --     Signed    two's complement by sums at 64 bits
 --     Problem   what the refusals before any search say
 --     Frames    lengths of frames, and which answer is given when
+--     Digits    digits that are written are digits, and are read back
+--     Cap       what a reader of lines needs of the answers
 --     Zeros     runs of zeros
 pub mod Text
 pub mod Hex
 pub mod Signed
 pub mod Problem
 pub mod Frames
+pub mod Digits
+pub mod Cap
 pub mod Zeros

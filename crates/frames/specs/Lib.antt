@@ -8,4 +8,5 @@
 pub mod Hex
 pub mod Problem
 pub mod Answer
+pub mod Promises
 pub mod Code
