@@ -6,7 +6,9 @@
 --     Problem   what the refusals before any search say
 --     Frames    lengths of frames, and which answer is given when
 --     Digits    digits that are written are digits, and are read back
---     Cap       what a reader of lines needs of the answers
+--     Lines     lines: digits and then a line end
+--     Respond   what `respond` answers and leaves
+--     Cap       lines that are too long
 --     Zeros     runs of zeros
 pub mod Text
 pub mod Hex
@@ -14,5 +16,7 @@ pub mod Signed
 pub mod Problem
 pub mod Frames
 pub mod Digits
+pub mod Lines
+pub mod Respond
 pub mod Cap
 pub mod Zeros

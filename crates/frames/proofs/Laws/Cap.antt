@@ -1,4 +1,4 @@
--- What a reader of lines needs of the answers.
+-- Lines that are too long.
 --
 --     answer-cap       the answer to a line longer than 1,360 characters does not depend on what stands past its first 1,361
 --

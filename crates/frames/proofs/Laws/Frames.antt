@@ -6,16 +6,13 @@
 --                answer-fact        the checker states a fact          answer-unstated    the checker refuses
 --                answer-reply       what the search replies and leaves gives the answer to the problem
 --                answer-lines       the runs that a problem is searched with
---     Respond    respond-none       without room nothing is written        respond-some    with room the answer is
 --
 -- Assumes nothing.
 use mathlib.Core.Path.{_≡_, refl, sym, _∙_, ap, ap₂}
 use mathlib.Core.List.{List, _++_}
-use Prim.Native.Nat.{ℕ, zero, suc, _+_, _*_, _<_, _≤_}
+use Prim.Native.Nat.{ℕ, zero, suc, _+_, _*_}
 use native.Mathlib.Omega.{arith}
-use borrow.Author.Tests.{le-leb, lt-leb}
 use lib.ListN.{length, length-append}
-use lib.Seq.{sets}
 use lib.IntN.{ℤ}
 use Rattle.checker.specs.Answer.{interpolantAnswer, interpolantRun}
 use Rattle.checker.specs.declared.Answer.{Answer}
@@ -24,8 +21,7 @@ use Rattle.search.specs.Answer.{searchReply, searchVector, searchPoint}
 use Rattle.search.specs.declared.Reply.{Reply}
 use Rattle.frames.specs.Hex.{valueAt}
 use Rattle.frames.specs.Problem.{lineRefusal, nOf, maOf, mbOf, budgetOf, sideLong, numbersAt}
-use Rattle.frames.specs.Answer.{refutationFrame, pointFrame, unfinishedFrame, interpolantFrame, refusalFrame, factAnswer, refutedAnswer, replyAnswer, problemAnswer, zeros, problemLines, answerBy, answerOf, answerMax, respondEnd, respondRun}
-use Rattle.frames.specs.Code.{Written}
+use Rattle.frames.specs.Answer.{refutationFrame, pointFrame, unfinishedFrame, interpolantFrame, refusalFrame, factAnswer, refutedAnswer, replyAnswer, problemAnswer, zeros, problemLines, answerBy, answerOf}
 use Rattle.frames.proofs.Laws.Hex.{hex-length, hexes-length}
 
 -- Lengths --------------------------------------------------------------------------------------------------------------
@@ -112,17 +108,3 @@ module _ (l : List ℕ) where
       ∙ ap₂ (λ (v p : List ℤ). problemAnswer n ma mb (numbersAt l 16 (sideLong n ma)) (numbersAt l (16 + sideLong n ma * 8) (sideLong n mb)) (budgetOf l) v p coeffs) is-vector is-point
       ∙ ap (problemAnswer n ma mb (numbersAt l 16 (sideLong n ma)) (numbersAt l (16 + sideLong n ma * 8) (sideLong n mb)) (budgetOf l) (zeros (ma + mb)) (zeros n)) is-coeffs
       ∙ ap₂ (λ (n ma : ℕ). counted n ma mb) is-n is-ma ∙ ap (counted (nOf l) (maOf l)) is-mb
-
--- Respond --------------------------------------------------------------------------------------------------------------
-
-module _ (line out : List ℕ) (at : ℕ) where
-  pub respond-none : length out < at + answerMax → (at ≡ respondEnd line out at) × (out ≡ respondRun line out at)
-  unfolding respondEnd respondRun
-  respond-none h = let e = lt-leb (at + answerMax) (length out) h in (simp e, simp e)
-
-  pub respond-some : {text after : List ℕ} {end : ℕ} → at + answerMax ≤ length out → text ≡ answerOf line → Written out at text after end →
-      (end ≡ respondEnd line out at) × (after ≡ respondRun line out at)
-  unfolding respondEnd respondRun
-  respond-some h e w =
-      let room = le-leb (at + answerMax) (length out) h in
-      (simp room (w .place ∙ ap (λ (t : List ℕ). at + length t) e), simp room (w .run ∙ ap (sets out at) e))

@@ -1,7 +1,8 @@
 -- `frames::respond` meets its contract: without room it leaves all as it is, and with room it writes the answer. Assumes nothing.
 use mathlib.Core.Path.{sym, _∙_}
 use native.Mathlib.Omega.{arith}
-use Rattle.frames.proofs.Laws.Frames.{answer-refused, answer-problem, respond-none, respond-some}
+use Rattle.frames.proofs.Laws.Frames.{answer-refused, answer-problem}
+use Rattle.frames.proofs.Laws.Respond.{respond-none, respond-some}
 use borrow.Author.Needs.{needs}
 use Rattle.frames.proofs.respond.Statement.{statement}
 use Rattle.frames.proofs.respond.Tie as tie
