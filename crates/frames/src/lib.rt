@@ -1,12 +1,12 @@
 // Frames: a text line in, its answer lines out.
 ghost use mathlib.Core.Path.{_≡_};
+ghost use mathlib.Core.Bool.{true, _&&_};
 ghost use Prim.Native.Nat.{_+_, _*_, _<_, _≤_, _^_};
-ghost use lib.ListN.{length, getD};
+ghost use lib.ListN.{length};
 ghost use mir.Syntax.{w32, w64};
 ghost use mir.Val.{toZ, ofZ};
-ghost use Rattle.integers.specs.Below.{allBelow};
 ghost use Rattle.frames.specs.Hex.{isDigit, digitOf, valueAt, charOf, hex, hexes};
-ghost use Rattle.frames.specs.Problem.{isFrame, isProblem, lineRefusal, budgetOf, numbersAt};
+ghost use Rattle.frames.specs.Problem.{areDigits, isFrame, isProblem, lineRefusal, budgetOf, numbersAt};
 ghost use Rattle.frames.specs.Answer.{answerMax, refutationFrame, pointFrame, unfinishedFrame, interpolantFrame, refusalFrame, refutedAnswer, outcomeAnswer, replyAnswer, problemAnswer, problemLines, lineEnd, respondEnd, respondRun};
 ghost use Rattle.frames.specs.Code.{Written, Answerable, Readable};
 
@@ -288,7 +288,7 @@ fn is_frame(line: &[u8]) -> bool
 
 // Whether the counts of a frame are right, and its length is what they say.
 fn is_problem(line: &[u8]) -> bool
-    requires { ⌜ 16 ≤ length (now line) ⌝ }
+    requires { ⌜ isFrame (now line) ≡ true ⌝ }
     ensures { λ r. ⌜ r ≡ isProblem (now (line .entry)) ⌝ }
 {
     let n = value_at(line, 2, 2) as usize;
@@ -311,7 +311,7 @@ fn is_problem(line: &[u8]) -> bool
 
 // Reads a run of numbers of 4 bytes each, from a place on.
 fn read_numbers(line: &[u8], at: usize, numbers: &mut [i64])
-    requires { ⌜ at + length (now numbers) * 8 ≤ length (now line) ⌝ }
+    requires { ⌜ (at + length (now numbers) * 8 ≤ length (now line)) × (areDigits (now line) ≡ true) ⌝ }
     ensures { λ r. ⌜ now (numbers .exit) ≡ numbersAt (now (line .entry)) at (length (now (numbers .entry))) ⌝ }
 {
     let mut i: usize = 0;
@@ -323,18 +323,23 @@ fn read_numbers(line: &[u8], at: usize, numbers: &mut [i64])
 
 // ---- Hexadecimal, read
 
-// Whether each character is a digit.
+// Whether each character is a digit. No character ends the loop, so that many can be tested at once.
 fn are_digits(line: &[u8]) -> bool
-    ensures { λ r. ⌜ r ≡ allBelow (length (now (line .entry))) (λ i. isDigit (getD (now (line .entry)) i 0)) ⌝ }
+    ensures { λ r. ⌜ r ≡ areDigits (now (line .entry)) ⌝ }
 {
+    let mut good = true;
     let mut i: usize = 0;
     while i < line.len() {
-        if !is_digit(line[i]) {
-            return false;
-        }
+        good = both(good, is_digit(line[i]));
         i += 1;
     }
-    true
+    good
+}
+
+fn both(first: bool, second: bool) -> bool
+    ensures { λ r. ⌜ r ≡ first && second ⌝ }
+{
+    if first { second } else { false }
 }
 
 // Whether a character is one of 0 to 9 or a to f.
@@ -353,29 +358,19 @@ fn is_digit(c: u8) -> bool
     c < 103
 }
 
-// The value of a digit; 0 for any other character.
+// The value of a digit, without a test: the characters 0 to 9 end in their value, and a to f, which alone are above 64, in their
+// value less 9.
 fn digit_of(c: u8) -> u64
+    requires { ⌜ isDigit c ≡ true ⌝ }
     ensures { λ r. ⌜ r ≡ digitOf c ⌝ }
     ensures { λ r. ⌜ r < 16 ⌝ }
 {
-    if c < 48 {
-        return 0;
-    }
-    if c < 58 {
-        return (c - 48) as u64;
-    }
-    if c < 97 {
-        return 0;
-    }
-    if c < 103 {
-        return (c - 87) as u64;
-    }
-    0
+    (c % 16 + c / 64 * 9) as u64
 }
 
 // The number that some digits from a place on stand for.
 fn value_at(line: &[u8], at: usize, count: usize) -> u64
-    requires { ⌜ (count ≤ 8) × (at + count ≤ length (now line)) ⌝ }
+    requires { ⌜ (count ≤ 8) × (at + count ≤ length (now line)) × (areDigits (now line) ≡ true) ⌝ }
     ensures { λ r. ⌜ r ≡ valueAt (now (line .entry)) at count ⌝ }
     ensures { λ r. ⌜ r < 2 ^ 32 ⌝ }
 {

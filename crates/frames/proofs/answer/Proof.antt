@@ -1,10 +1,11 @@
 -- `frames::answer` meets its contract: the counts of a line that is not refused are small, so that each part of an array is as long
 -- as it is lent. Assumes nothing.
 use mathlib.Core.Path.{_≡_, sym, _∙_, ap}
+use mathlib.Core.Bool.{true}
 use Prim.Native.Nat.{ℕ, _+_, _≤_}
 use native.Mathlib.Omega.{arith}
 use lib.ListN.{length}
-use Rattle.frames.specs.Problem.{sideLong}
+use Rattle.frames.specs.Problem.{areDigits, sideLong}
 use Rattle.frames.proofs.Laws.Text.{written-same}
 use Rattle.frames.proofs.Laws.Problem.{lawful, Fit, fit}
 use Rattle.frames.proofs.Laws.Frames.{answer-lines}
@@ -17,6 +18,9 @@ use Rattle.frames.proofs.answer.Tie as tie
 long : (s : tie.Start) → 16 ≤ length (s .args .line .now)
 long s = omega (arith, lawful (s .args .line .now) (s .pre .0) .long)
 
+digits : (s : tie.Start) → areDigits (s .args .line .now) ≡ true
+digits s = lawful (s .args .line .now) (s .pre .0) .digits
+
 abbrev start : tie.After-value-at3 → tie.Start
 start c = c .before .before .before .before .before
 
@@ -24,13 +28,13 @@ counts : (c : tie.After-value-at3) → Fit (c .before .before .value-at .result)
 counts c = let s = start c in fit (s .args .line .now) (c .before .before .value-at .ensures .0) (c .before .value-at2 .ensures .0) (c .value-at3 .ensures .0) (s .pre .0)
 
 value-at-requires : tie.Need-value-at-requires
-value-at-requires c κs = (omega arith, omega (arith, long (c .before .before)))
+value-at-requires c κs = (omega arith, omega (arith, long (c .before .before)), digits (c .before .before))
 
 value-at-requires-2 : tie.Need-value-at-requires-2
-value-at-requires-2 c κs = (omega arith, omega (arith, long (c .before .before .before)))
+value-at-requires-2 c κs = (omega arith, omega (arith, long (c .before .before .before)), digits (c .before .before .before))
 
 value-at-requires-3 : tie.Need-value-at-requires-3
-value-at-requires-3 c κs = (omega arith, omega (arith, long (c .before .before .before .before)))
+value-at-requires-3 c κs = (omega arith, omega (arith, long (c .before .before .before .before)), digits (c .before .before .before .before))
 
 add-m : tie.Need-add-m
 add-m c = search needs
@@ -86,7 +90,7 @@ solve-requires c κs =
     let ma = k .before .value-at2 .result in
     let mb = k .value-at3 .result in
     let m = ma + mb in (
-      record { head = long s; numbers = let a = zeros-long 168 (sideLong n ma) (f .small-a) in let b = zeros-long 168 (sideLong n mb) (f .small-b) in omega (arith, f .numbers) },
+      record { head = long s; digits = digits s; numbers = let a = zeros-long 168 (sideLong n ma) (f .small-a) in let b = zeros-long 168 (sideLong n mb) (f .small-b) in omega (arith, f .numbers) },
       record {
         few-n = f .few-n;
         few-m = f .few-m;

@@ -2,6 +2,7 @@
 use mathlib.Core.Path.{sym, _∙_, ap}
 use Prim.Native.Nat.{ℕ}
 use lib.Dec.{eqb}
+use native.Mathlib.Omega.{arith}
 use borrow.Author.Tests.{le-leb, lt-leb, eq-eqb, ne-eqb, not-true, not-false}
 use borrow.Author.Needs.{needs}
 use Rattle.frames.specs.Problem.{isFrame}
@@ -36,7 +37,9 @@ returns-4 c =
     )
 
 value-at-requires : tie.Need-value-at-requires
-value-at-requires c κs = search needs
+value-at-requires c κs =
+    let d = c .before in
+    (omega arith, omega arith, sym (d .are-digits .ensures) ∙ not-false (d .are-digits .result) (c .if4 .left))
 
 returns-5 : tie.Need-returns-5
 unfolding isFrame

@@ -2,21 +2,27 @@
 use mathlib.Core.Path.{_≡_, sym, _∙_, ap}
 use Prim.Native.Nat.{ℕ, _+_, _*_, _≤_}
 use native.Mathlib.Omega.{arith}
+use mathlib.Core.Bool.{true}
+use lib.ListN.{length}
 use borrow.Author.Tests.{le-leb, lt-leb}
 use borrow.Author.Needs.{needs}
-use Rattle.frames.specs.Problem.{isProblem}
-use Rattle.frames.proofs.Laws.Problem.{small}
+use Rattle.frames.specs.Problem.{areDigits, isProblem}
+use Rattle.frames.proofs.Laws.Problem.{small, frame-long, frame-digits}
 use Rattle.frames.proofs.is_problem.Statement.{statement}
 use Rattle.frames.proofs.is_problem.Tie as tie
 
+-- a count stands among the first 16 characters
+counted : (s : tie.Start) (place : ℕ) → place ≤ 14 → (2 ≤ 8) × (place + 2 ≤ length (s .args .line .now)) × (areDigits (s .args .line .now) ≡ true)
+counted s place h = let l = s .args .line .now in (omega arith, omega (arith, frame-long l (s .pre)), frame-digits l (s .pre))
+
 value-at-requires : tie.Need-value-at-requires
-value-at-requires c κs = search needs
+value-at-requires c κs = counted (c .before) 2 (omega arith)
 
 value-at-requires-2 : tie.Need-value-at-requires-2
-value-at-requires-2 c κs = search needs
+value-at-requires-2 c κs = counted (c .before .before) 4 (omega arith)
 
 value-at-requires-3 : tie.Need-value-at-requires-3
-value-at-requires-3 c κs = search needs
+value-at-requires-3 c κs = counted (c .before .before .before) 6 (omega arith)
 
 returns : tie.Need-returns
 unfolding isProblem

@@ -33,7 +33,7 @@ add-value-at : tie.Need-add-value-at Inv-loop μ-loop
 add-value-at c = search needs
 
 value-at-requires : tie.Need-value-at-requires Inv-loop μ-loop
-value-at-requires c κs = (omega arith, omega arith)
+value-at-requires c κs = (omega arith, omega arith, c .before .before .before .pre .1)
 
 signed-of-requires : tie.Need-signed-of-requires Inv-loop μ-loop
 signed-of-requires c κs = c .value-at .ensures .1

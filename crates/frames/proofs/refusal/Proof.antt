@@ -1,10 +1,9 @@
--- `frames::refusal` meets its contract by its two tests; a frame is long enough to have counts. Assumes nothing.
+-- `frames::refusal` meets its contract by its two tests. Assumes nothing.
 use mathlib.Core.Path.{_≡_, sym, _∙_}
 use mathlib.Core.Bool.{true, false}
 use borrow.Author.Tests.{not-true, not-false}
 use borrow.Author.Needs.{needs}
 use Rattle.frames.specs.Problem.{isFrame, isProblem, lineRefusal}
-use Rattle.frames.proofs.Laws.Problem.{frame-long}
 use Rattle.frames.proofs.refusal.Statement.{statement}
 use Rattle.frames.proofs.refusal.Tie as tie
 
@@ -19,7 +18,7 @@ is-a-frame : (c : tie.Else1) → isFrame (c .before .before .before .args .line 
 is-a-frame c = sym (c .before .is-frame .ensures) ∙ not-false (c .before .is-frame .result) (c .if1 .left)
 
 is-problem-requires : tie.Need-is-problem-requires
-is-problem-requires c κs = frame-long (c .before .before .before .args .line .now) (is-a-frame c)
+is-problem-requires c κs = is-a-frame c
 
 returns-2 : tie.Need-returns-2
 unfolding lineRefusal

@@ -3,9 +3,9 @@ use mathlib.Core.Path.{_≡_, sym, _∙_, ap, ap₂}
 use Prim.Native.Nat.{ℕ, _+_, _*_, _-_, _<_, _≤_, _^_}
 use native.Mathlib.Nat.{le-antisymm}
 use native.Mathlib.Omega.{arith}
-use borrow.Author.Needs.{needs}
 use lib.ListN.{length, getD}
-use Rattle.frames.specs.Hex.{digitOf, valueAt}
+use Rattle.integers.proofs.Laws.Below.{all-each}
+use Rattle.frames.specs.Hex.{isDigit, valueAt}
 use Rattle.frames.proofs.Laws.Hex.{value-none, value-more, value-small}
 use Rattle.frames.proofs.value_at.Statement.{statement}
 use Rattle.frames.proofs.value_at.Tie as tie
@@ -32,7 +32,10 @@ shared-slice-read-digit-of : tie.Need-shared-slice-read-digit-of Inv-loop μ-loo
 shared-slice-read-digit-of c = omega arith
 
 digit-of-requires : tie.Need-digit-of-requires Inv-loop μ-loop
-digit-of-requires c κs = search needs
+digit-of-requires c κs =
+    let l = c .before .before in
+    let s = l .before .before in
+    all-each (length (s .args .line .now)) (λ i. isDigit (getD (s .args .line .now) i 0)) (s .pre .2) (s .args .at + l .loop .k) (omega arith)
 
 add-value : tie.Need-add-value Inv-loop μ-loop
 add-value c = record { fits = omega (arith, small (c .before .before .before)) }
