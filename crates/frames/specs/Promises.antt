@@ -6,7 +6,7 @@
 use mathlib.Core.Path.{_≡_}
 use mathlib.Core.Bool.{true}
 use mathlib.Core.List.{List, _++_}
-use Prim.Native.Nat.{ℕ, _≤_, _%_}
+use Prim.Native.Nat.{ℕ, _%_}
 use lib.ListN.{length}
 use Rattle.frames.specs.Hex.{valueAt}
 use Rattle.frames.specs.Problem.{areDigits}

@@ -3,17 +3,15 @@
 --     answer-cap       the answer to a line longer than 1,360 characters does not depend on what stands past its first 1,361
 --
 -- Assumes nothing.
-use mathlib.Core.Path.{_≡_, refl, sym, _∙_, ap}
-use mathlib.Core.Bool.{Bool, true, false}
+use mathlib.Core.Path.{_≡_, sym, _∙_, ap}
 use mathlib.Core.List.{List}
-use Prim.Native.Nat.{ℕ, suc, _<_, _≤_}
+use Prim.Native.Nat.{ℕ, _<_}
 use native.Mathlib.Decide.{decLt}
 use native.Mathlib.Omega.{arith}
 use borrow.Author.Tests.{lt-leb}
 use lib.ListN.{length, take}
 use lib.Seq.{take-all, length-take-le}
-use Rattle.checker.specs.Refutation.{unless}
-use Rattle.frames.specs.Problem.{isFrame, isProblem, lineRefusal}
+use Rattle.frames.specs.Problem.{isFrame, lineRefusal}
 use Rattle.frames.specs.Answer.{refusalFrame, answerOf}
 use Rattle.frames.proofs.Laws.Frames.{answer-refused}
 

@@ -8,11 +8,11 @@
 --     hex-low        the lowest k digits are those of the number modulo 16 ^ k
 --
 -- Assumes nothing.
-use mathlib.Core.Path.{_≡_, refl, sym, _∙_, ap, ap₂}
+use mathlib.Core.Path.{_≡_, refl, _∙_, ap, ap₂}
 use mathlib.Core.Bool.{Bool, true, false, cond}
 use mathlib.Core.List.{List, [], _∷_, _++_, append-assoc}
-use Prim.Native.Nat.{ℕ, zero, suc, _+_, _*_, _-_, _/_, _%_, _<_, _≤_, _^_}
-use native.Mathlib.Nat.{pow-suc, pow-succ', add-zero, mul-assoc}
+use Prim.Native.Nat.{ℕ, zero, suc, _+_, _*_, _-_, _/_, _%_, _<_, _^_}
+use native.Mathlib.Nat.{pow-suc, pow-succ', mul-assoc}
 use native.Mathlib.Decide.{decLt}
 use native.Mathlib.Omega.{arith}
 use borrow.Author.Tests.{lt-ltb, le-ltb, ltb-true, ltb-false}
@@ -22,7 +22,6 @@ use lib.Seq.{getD-append-add, getD-at}
 use lib.IntN.{ℤ}
 use mir.Syntax.{w64}
 use mir.Val.{ofZ}
-use Rattle.integers.specs.Below.{allBelow}
 use Rattle.integers.proofs.Laws.Below.{all-none, all-each, all-true}
 use Rattle.frames.specs.Hex.{isDigit, digitOf, valueAt, charOf, hex, signedHex, hexes}
 use Rattle.frames.specs.Problem.{areDigits}

@@ -14,7 +14,7 @@ use native.Mathlib.Nat.{mul-assoc}
 use native.Mathlib.Omega.{arith}
 use lib.ListN.{length, length-append}
 use lib.IntN.{ℤ}
-use Rattle.frames.specs.Hex.{valueAt, hex, hexes}
+use Rattle.frames.specs.Hex.{hex, hexes}
 use Rattle.frames.specs.Problem.{areDigits}
 use Rattle.frames.specs.Answer.{lineEnd}
 use Rattle.frames.specs.Promises.{IsLine}

@@ -4,11 +4,11 @@
 --     zeros-part     a part of k zeros is the run of k zeros
 --
 -- Assumes nothing.
-use mathlib.Core.Path.{_≡_, refl, sym, _∙_, ap}
+use mathlib.Core.Path.{_≡_, refl, sym, ap}
 use mathlib.Core.List.{List, _∷_}
 use Prim.Native.Nat.{ℕ, zero, suc, _≤_}
 use native.Mathlib.Omega.{arith}
-use lib.ListN.{length, take, replicate, length-replicate}
+use lib.ListN.{length, take, length-replicate}
 use lib.Seq.{length-take-le}
 use lib.IntN.{ℤ, pos}
 use Rattle.frames.specs.Answer.{zeros}

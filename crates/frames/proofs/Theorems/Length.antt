@@ -23,7 +23,7 @@ use Rattle.search.specs.declared.Outcome.the-variants.{Unfinished, TooLarge, Re
 use Rattle.search.specs.declared.Reply.{Reply}
 use Rattle.search.specs.declared.Reply.the-variants.{Refused, Answered}
 use Rattle.frames.specs.Problem.{lineRefusal, nOf, maOf, mbOf, budgetOf, sideA, sideB}
-use Rattle.frames.specs.Answer.{refutationFrame, interpolantFrame, refusalFrame, answerMax, factAnswer, refutedAnswer, outcomeAnswer, replyAnswer, problemAnswer, zeros, problemLines, answerOf}
+use Rattle.frames.specs.Answer.{refutationFrame, interpolantFrame, refusalFrame, answerMax, factAnswer, outcomeAnswer, replyAnswer, problemAnswer, zeros, problemLines, answerOf}
 use Rattle.frames.proofs.Laws.Problem.{lawful}
 use Rattle.frames.proofs.Laws.Frames.{refutation-length, point-length, unfinished-length, interpolant-length, refusal-length, answer-refused, answer-problem}
 

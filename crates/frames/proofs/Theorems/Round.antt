@@ -4,7 +4,7 @@
 --     number-round    4 bytes, signed: q, a numerator, a place   long-round     8 bytes, signed: a coefficient, constant or modulus
 --
 -- Assumes nothing.
-use mathlib.Core.Path.{_≡_, refl, sym, _∙_, ap}
+use mathlib.Core.Path.{_≡_, refl, _∙_, ap}
 use mathlib.Core.List.{List, _++_}
 use Prim.Native.Nat.{ℕ, suc, _+_, _*_, _-_, _<_, _^_}
 use native.Mathlib.Omega.{arith}

@@ -1,15 +1,20 @@
 -- Every answer is well formed: "02 and then 05, or one of 03, 04, 06", each a line of an even number of digits and one line end.
 --
---     answer-well-formed
+--     answer-well-formed    every answer is one or two lines
+--     line-end-last         in a line a line end stands last, and nowhere else
 --
 -- Assumes nothing.
-use mathlib.Core.Path.{_≡_, refl}
+use mathlib.Core.Path.{_≡_, refl, sym, _∙_, ap}
+use mathlib.Core.Bool.{true≢false}
 use mathlib.Core.List.{List}
-use Prim.Native.Nat.{ℕ, zero, suc, _+_}
+use Prim.Native.Nat.{ℕ, zero, suc, _+_, _<_}
+use native.Mathlib.Decide.{decLt}
 use native.Mathlib.Omega.{arith}
+use lib.ListN.{length, getD, length-append, List·getD-append}
 use lib.IntN.{ℤ}
 use mir.Syntax.{w64}
 use mir.Val.{ofZ}
+use Rattle.integers.proofs.Laws.Below.{all-each}
 use Rattle.checker.specs.Answer.{interpolantAnswer, interpolantRun}
 use Rattle.checker.specs.declared.Answer.{Answer}
 use Rattle.checker.specs.declared.Answer.the-variants.{Fact, Refused as Unstated}
@@ -18,10 +23,23 @@ use Rattle.search.specs.declared.Outcome.{Outcome}
 use Rattle.search.specs.declared.Outcome.the-variants.{Unfinished, TooLarge, Refuted, Solved}
 use Rattle.search.specs.declared.Reply.{Reply}
 use Rattle.search.specs.declared.Reply.the-variants.{Refused, Answered}
+use Rattle.frames.specs.Hex.{isDigit}
 use Rattle.frames.specs.Problem.{lineRefusal, nOf, maOf, mbOf, budgetOf, sideA, sideB}
-use Rattle.frames.specs.Answer.{refutationFrame, pointFrame, unfinishedFrame, interpolantFrame, refusalFrame, factAnswer, outcomeAnswer, replyAnswer, problemAnswer, zeros, problemLines, answerBy, answerOf}
+use Rattle.frames.specs.Answer.{lineEnd, refutationFrame, pointFrame, unfinishedFrame, interpolantFrame, refusalFrame, factAnswer, outcomeAnswer, replyAnswer, problemAnswer, zeros, problemLines, answerBy, answerOf}
 use Rattle.frames.specs.Promises.{IsLine, IsAnswer, refuted, solved, unfinished, refused}
+use Rattle.frames.proofs.Laws.Digits.{end-no-digit}
 use Rattle.frames.proofs.Laws.Lines.{rest-end, rest-hex, rest-hexes, line-of}
+
+pub line-end-last : (kind : ℕ) (text : List ℕ) → IsLine kind text → (i : ℕ) → i < length text → getD text i 0 ≡ 10 → suc i ≡ length text
+line-end-last kind text line i h e =
+    let body = line .body in
+    let long = ap length (line .is) ∙ length-append body lineEnd in
+    elim (decLt i (length body)) [
+      | yes g ↦
+          let here = sym (List·getD-append body lineEnd 0 i g) ∙ ap (λ (t : List ℕ). getD t i 0) (sym (line .is)) ∙ e in
+          absurd (true≢false (sym (all-each (length body) (λ k. isDigit (getD body k 0)) (line .digits) i g) ∙ ap isDigit here ∙ end-no-digit))
+      | no g ↦ omega arith
+    ]
 
 refutation-line : (steps m : ℕ) (q : ℤ) (vector : List ℤ) → IsLine 2 (refutationFrame steps m q vector)
 unfolding refutationFrame

@@ -1,8 +1,8 @@
 -- `frames::answer` meets its contract: the counts of a line that is not refused are small, so that each part of an array is as long
 -- as it is lent. Assumes nothing.
-use mathlib.Core.Path.{_≡_, sym, _∙_, ap}
+use mathlib.Core.Path.{_≡_, sym}
 use mathlib.Core.Bool.{true}
-use Prim.Native.Nat.{ℕ, _+_, _≤_}
+use Prim.Native.Nat.{_+_, _≤_}
 use native.Mathlib.Omega.{arith}
 use lib.ListN.{length}
 use Rattle.frames.specs.Problem.{areDigits, sideLong}

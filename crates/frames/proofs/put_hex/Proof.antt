@@ -1,13 +1,10 @@
 -- `frames::put_hex` meets its contract: the digits that are left, written before those that are, give the number. Assumes nothing.
-use mathlib.Core.Path.{_≡_, refl, sym, _∙_, ap, ap₂}
-use mathlib.Core.List.{List}
-use Prim.Native.Nat.{ℕ, zero, suc, _+_, _-_, _/_, _%_, _≤_}
+use mathlib.Core.Path.{_≡_, refl, sym, _∙_, ap}
+use Prim.Native.Nat.{ℕ, suc, _+_, _-_, _/_, _≤_}
 use native.Mathlib.Omega.{arith}
-use borrow.Author.Needs.{needs}
 use lib.ListN.{length, set, length-set}
 use lib.Seq.{sets}
-use Rattle.frames.specs.Hex.{charOf, hex}
-use Rattle.frames.specs.Code.{Written}
+use Rattle.frames.specs.Hex.{hex}
 use Rattle.frames.proofs.Laws.Hex.{hex-length, hex-none, hex-turn}
 use Rattle.frames.proofs.put_hex.Statement.{statement}
 use Rattle.frames.proofs.put_hex.Tie as tie

@@ -1,6 +1,5 @@
 -- `frames::put_refutation` meets its contract: its parts stand one after the other. Assumes nothing.
 use mathlib.Core.Path.{_∙_, ap}
-use Prim.Native.Nat.{ℕ}
 use borrow.Author.Needs.{needs}
 use mir.Syntax.{w64}
 use mir.Val.{ofZ}

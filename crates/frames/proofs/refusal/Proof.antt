@@ -1,9 +1,9 @@
 -- `frames::refusal` meets its contract by its two tests. Assumes nothing.
 use mathlib.Core.Path.{_≡_, sym, _∙_}
-use mathlib.Core.Bool.{true, false}
+use mathlib.Core.Bool.{true}
 use borrow.Author.Tests.{not-true, not-false}
 use borrow.Author.Needs.{needs}
-use Rattle.frames.specs.Problem.{isFrame, isProblem, lineRefusal}
+use Rattle.frames.specs.Problem.{isFrame, lineRefusal}
 use Rattle.frames.proofs.refusal.Statement.{statement}
 use Rattle.frames.proofs.refusal.Tie as tie
 

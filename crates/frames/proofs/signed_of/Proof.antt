@@ -1,5 +1,5 @@
 -- `frames::signed_of` meets its contract: below 2^31 the number is its bits, from there on 2^32 is taken away. Assumes nothing.
-use mathlib.Core.Path.{_≡_, sym, _∙_}
+use mathlib.Core.Path.{sym, _∙_}
 use native.Mathlib.Omega.{arith}
 use borrow.Author.Needs.{needs}
 use mir.Syntax.{w32, w64}
