@@ -7,7 +7,8 @@
 --     answerMax        the length of the longest answer
 --     respondEnd       the place after the answer                respondRun    the run with the answer written into it
 --
--- The checker refuses no vector that the search found. The definition says what would be answered if it did: frame 06.
+-- If the checker refused a vector that the search found, the answer would be frame 06 with its number: that it never does is no part
+-- of the definition.
 use mathlib.Core.List.{List, [], _∷_, _++_}
 use mathlib.Core.Bool.{Bool, cond}
 use Prim.Native.Nat.{ℕ, zero, suc, _+_}

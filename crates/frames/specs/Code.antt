@@ -17,11 +17,10 @@ pub record Written (before : List ℕ) (at : ℕ) (text after : List ℕ) (end :
   pub run : after ≡ sets before at text
   pub place : end ≡ at + length text
 
-pub record Answerable (n ma mb : ℕ) (vector point coeffs : List ℤ) (out : List ℕ) (at : ℕ) : Type 0 where
+pub record Answerable (n ma mb : ℕ) (vector coeffs : List ℤ) (out : List ℕ) (at : ℕ) : Type 0 where
   pub few-n : n ≤ 12
   pub few-m : ma + mb ≤ 12
   pub vector-long : length vector ≡ ma + mb
-  pub point-long : length point ≡ n
   pub coeffs-long : length coeffs ≡ n
   pub room : at + answerMax ≤ length out
 

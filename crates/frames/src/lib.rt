@@ -74,7 +74,7 @@ fn solve(
     out: &mut [u8],
     at: usize,
 ) -> usize
-    requires { ⌜ Readable (now line) (length (now a)) (length (now b)) × Answerable n ma mb (now vector) (now point) (now coeffs) (now out) at ⌝ }
+    requires { ⌜ Readable (now line) (length (now a)) (length (now b)) × (length (now point) ≡ n) × Answerable n ma mb (now vector) (now coeffs) (now out) at ⌝ }
     ensures { λ r. ⌜ Written (now (out .entry)) at (problemAnswer n ma mb (numbersAt (now (line .entry)) 16 (length (now (a .entry)))) (numbersAt (now (line .entry)) (16 + length (now (a .entry)) * 8) (length (now (b .entry)))) (budgetOf (now (line .entry))) (now (vector .entry)) (now (point .entry)) (now (coeffs .entry))) (now (out .exit)) r ⌝ }
 {
     read_numbers(line, 16, a);
@@ -86,6 +86,7 @@ fn solve(
 
 // ---- Answers
 
+// Writes the answer to what the search replies. `vector` and `point` are as the search left them.
 fn put_reply(
     reply: search::Reply,
     n: usize,
@@ -99,7 +100,7 @@ fn put_reply(
     out: &mut [u8],
     at: usize,
 ) -> usize
-    requires { ⌜ Answerable n ma mb (now vector) (now point) (now coeffs) (now out) at ⌝ }
+    requires { ⌜ (length (now point) ≡ n) × Answerable n ma mb (now vector) (now coeffs) (now out) at ⌝ }
     ensures { λ r. ⌜ Written (now (out .entry)) at (replyAnswer reply n ma mb (now (a .entry)) (now (b .entry)) (now (vector .entry)) (now (point .entry)) (now (coeffs .entry))) (now (out .exit)) r ⌝ }
 {
     match reply {
@@ -108,25 +109,13 @@ fn put_reply(
         }
         search::Reply::Answered(found) => {
             let steps = found.steps;
-            let outcome = found.outcome;
-            return put_outcome(
-                outcome,
-                steps,
-                n,
-                ma,
-                mb,
-                a,
-                b,
-                vector,
-                point,
-                coeffs,
-                out,
-                at,
-            );
+            let o = found.outcome;
+            return put_outcome(o, steps, n, ma, mb, a, b, vector, point, coeffs, out, at);
         }
     }
 }
 
+// Writes the answer to how a search ended.
 fn put_outcome(
     outcome: search::Outcome,
     steps: u32,
@@ -141,7 +130,7 @@ fn put_outcome(
     out: &mut [u8],
     at: usize,
 ) -> usize
-    requires { ⌜ Answerable n ma mb (now vector) (now point) (now coeffs) (now out) at ⌝ }
+    requires { ⌜ (length (now point) ≡ n) × Answerable n ma mb (now vector) (now coeffs) (now out) at ⌝ }
     ensures { λ r. ⌜ Written (now (out .entry)) at (outcomeAnswer outcome steps n ma mb (now (a .entry)) (now (b .entry)) (now (vector .entry)) (now (point .entry)) (now (coeffs .entry))) (now (out .exit)) r ⌝ }
 {
     match outcome {
@@ -155,12 +144,12 @@ fn put_outcome(
             return put_refuted(q, steps, n, ma, mb, a, b, vector, coeffs, out, at);
         }
         search::Outcome::Solved => {
-            return put_point(n, steps, point, out, at);
+            return put_point(steps, n, point, out, at);
         }
     }
 }
 
-// The refutation and its interpolant. The checker does not refuse what the search found; if it did, its refusal would be written.
+// Writes the refutation and its interpolant. If the checker refused what the search found, its refusal would be written.
 fn put_refuted(
     q: i64,
     steps: u32,
@@ -174,7 +163,7 @@ fn put_refuted(
     out: &mut [u8],
     at: usize,
 ) -> usize
-    requires { ⌜ Answerable n ma mb (now vector) (now coeffs) (now coeffs) (now out) at ⌝ }
+    requires { ⌜ Answerable n ma mb (now vector) (now coeffs) (now out) at ⌝ }
     ensures { λ r. ⌜ Written (now (out .entry)) at (refutedAnswer q steps n ma mb (now (a .entry)) (now (b .entry)) (now (vector .entry)) (now (coeffs .entry))) (now (out .exit)) r ⌝ }
 {
     let given = checker::interpolant(n, ma, mb, a, b, q, vector, coeffs);
@@ -189,7 +178,7 @@ fn put_refuted(
     }
 }
 
-// ---- Frames 02 to 06
+// ---- Frames 02 to 06, each from place `at` on, with its line end; each answers the place after it
 
 fn put_refutation(steps: u32, m: usize, q: i64, vector: &[i64], out: &mut [u8], at: usize) -> usize
     requires { ⌜ at + (21 + length (now vector) * 8) ≤ length (now out) ⌝ }
@@ -203,7 +192,7 @@ fn put_refutation(steps: u32, m: usize, q: i64, vector: &[i64], out: &mut [u8], 
     put_end(out, numerators)
 }
 
-fn put_point(n: usize, steps: u32, point: &[i64], out: &mut [u8], at: usize) -> usize
+fn put_point(steps: u32, n: usize, point: &[i64], out: &mut [u8], at: usize) -> usize
     requires { ⌜ at + (13 + length (now point) * 8) ≤ length (now out) ⌝ }
     ensures { λ r. ⌜ Written (now (out .entry)) at (pointFrame steps n (now (point .entry))) (now (out .exit)) r ⌝ }
 {
@@ -358,8 +347,8 @@ fn is_digit(c: u8) -> bool
     c < 103
 }
 
-// The value of a digit, without a test: the characters 0 to 9 end in their value, and a to f, which alone are above 64, in their
-// value less 9.
+// The value of a digit, without a test. Modulo 16 the characters 0 to 9 are their value, and a to f, the only ones above 64, are
+// their value less 9.
 fn digit_of(c: u8) -> u64
     requires { ⌜ isDigit c ≡ true ⌝ }
     ensures { λ r. ⌜ r ≡ digitOf c ⌝ }

@@ -96,7 +96,6 @@ module _ (before : List ℕ) where
       let high = hex k (v / 16) in
       let c = charOf (v % 16) in
       let rest = c ∷ after in
-      let text = before ++ (high ++ rest) in
       let joined = ap (λ (t : List ℕ). before ++ t) (append-assoc high (c ∷ []) after) in
       let few : v / 16 < 16 ^ k = let p = pow-suc 16 k in omega arith in
       let digit = getD-append-add before (high ++ rest) k 0 ∙ getD-at high c after 0 k (hex-length k (v / 16)) in

@@ -6,7 +6,7 @@
 --
 -- Assumes nothing.
 use mathlib.Core.Path.{_≡_, refl, sym, _∙_}
-use mathlib.Core.Bool.{Bool, true, false}
+use mathlib.Core.Bool.{true, false, true≢false}
 use Prim.Native.Nat.{ℕ, suc, _+_, _-_, _<_, _≤_, _^_}
 use native.Mathlib.Omega.{arith}
 use borrow.Author.Tests.{lt-ltb, le-ltb, ltb-true}
@@ -30,10 +30,7 @@ minus-fits w g h = rw (toZ-pos w64 {n = w} (omega arith)) (simp (lt-ltb w 429496
 
 pub bits-positive : (x : ℤ) → isNegative x ≡ false → natAbs x ≡ ofZ w64 x
 bits-positive (pos n) e = refl
-bits-positive (negsuc n) e = absurd (true-false e)
-  where
-    true-false : _≡_ {A = Bool} true false → ⊥
-    true-false e = let z : _≡_ {A = ℕ} 0 1 = cc in omega arith
+bits-positive (negsuc n) e = absurd (true≢false e)
 
 pub bits-negative : (x : ℤ) → SFits w64 x → isNegative x ≡ true → (0 < natAbs x) × (18446744073709551615 - natAbs x + 1 ≡ ofZ w64 x)
 bits-negative (pos n) f e = absurd (omega (arith, ltb-true n 0 e))

@@ -27,9 +27,9 @@ use Rattle.frames.specs.Answer.{refutationFrame, interpolantFrame, refus
 use Rattle.frames.proofs.Laws.Problem.{lawful}
 use Rattle.frames.proofs.Laws.Frames.{refutation-length, point-length, unfinished-length, interpolant-length, refusal-length, answer-refused, answer-problem}
 
-pub record Long (text : List ℕ) : Type 0 where
-  pub some : 1 ≤ length text
-  pub short : length text ≤ answerMax
+record Long (text : List ℕ) : Type 0 where
+  some : 1 ≤ length text
+  short : length text ≤ answerMax
 
 -- runs keep their lengths
 written-length : (k : ℕ) (t : Bool) (numbers entry : List ℤ) → length (writtenIf k t numbers entry) ≡ length entry

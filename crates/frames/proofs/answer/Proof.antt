@@ -90,12 +90,16 @@ solve-requires c κs =
     let ma = k .before .value-at2 .result in
     let mb = k .value-at3 .result in
     let m = ma + mb in (
-      record { head = long s; digits = digits s; numbers = let a = zeros-long 168 (sideLong n ma) (f .small-a) in let b = zeros-long 168 (sideLong n mb) (f .small-b) in omega (arith, f .numbers) },
+      record {
+        head = long s;
+        numbers = let a = zeros-long 168 (sideLong n ma) (f .small-a) in let b = zeros-long 168 (sideLong n mb) (f .small-b) in omega (arith, f .numbers);
+        digits = digits s;
+      },
+      sym (zeros-long 12 n (f .few-n)),
       record {
         few-n = f .few-n;
         few-m = f .few-m;
         vector-long = sym (zeros-long 12 m (f .few-m));
-        point-long = sym (zeros-long 12 n (f .few-n));
         coeffs-long = sym (zeros-long 12 n (f .few-n));
         room = s .pre .1;
       },
@@ -114,8 +118,15 @@ returns c =
     let ma = k .before .value-at2 .result in
     let mb = k .value-at3 .result in
     written-same
-    (answer-lines (s .args .line .now) _ _ _ _ _ (k .before .before .value-at .ensures .0) (k .before .value-at2 .ensures .0) (k .value-at3 .ensures .0) (sym (zeros-long 168 (sideLong n ma) (f .small-a)))
-    (sym (zeros-long 168 (sideLong n mb) (f .small-b))) (zeros-part 12 (ma + mb) (f .few-m)) (zeros-part 12 n (f .few-n)) (zeros-part 12 n (f .few-n)))
+    (answer-lines (s .args .line .now) _ _ _ _ _
+    (k .before .before .value-at .ensures .0)
+    (k .before .value-at2 .ensures .0)
+    (k .value-at3 .ensures .0)
+    (sym (zeros-long 168 (sideLong n ma) (f .small-a)))
+    (sym (zeros-long 168 (sideLong n mb) (f .small-b)))
+    (zeros-part 12 (ma + mb) (f .few-m))
+    (zeros-part 12 n (f .few-n))
+    (zeros-part 12 n (f .few-n)))
     (solved .solve .ensures)
 
 pub answer-spec : {M : Type 1} → statement M

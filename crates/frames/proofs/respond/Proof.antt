@@ -32,7 +32,8 @@ returns-3 c =
     let number = refused .before in
     let s = number .before .before .before .before .before in
     let line = s .args .line .now in
-    respond-some line (s .args .out .now) (s .args .at) (omega arith) (answer-refused line (number .refusal .result) (number .refusal .ensures) (refused .if3 .taken)) (put .put-refusal .ensures)
+    let text = answer-refused line (number .refusal .result) (number .refusal .ensures) (refused .if3 .taken) in
+    respond-some line (s .args .out .now) (s .args .at) (omega arith) text (put .put-refusal .ensures)
 
 answer-requires : tie.Need-answer-requires
 answer-requires c κs = search needs

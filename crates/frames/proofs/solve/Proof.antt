@@ -59,9 +59,18 @@ returns c =
     let second = budget .before .before in
     let first = second .before .before .before in
     let s = first .before .before .before .before in
+    let long-a = first .read-numbers .kept .1 .1 .0 in
     written-same
-    (answer-reply (s .args .n) (s .args .ma) (s .args .mb) (s .args .vector .now) (s .args .point .now) (s .args .coeffs .now) (found .search .result) (found .search .last .1 .1 .1 .1 .1 .1 .0) (found .search .last .1 .1 .1 .1 .1 .1 .1 .0) (first .read-numbers .ensures)
-    (second .read-numbers2 .ensures ∙ ap (λ (k : ℕ). numbersAt (s .args .line .now) (16 + k * 8) (length (s .args .b .now))) (first .read-numbers .kept .1 .1 .0)) (budget .value-at .ensures .0) (found .search .ensures .0) (found .search .ensures .1 .0) (found .search .ensures .1 .1))
+    (answer-reply (s .args .n) (s .args .ma) (s .args .mb) (s .args .vector .now) (s .args .point .now) (s .args .coeffs .now)
+    (found .search .result)
+    (found .search .last .1 .1 .1 .1 .1 .1 .0)
+    (found .search .last .1 .1 .1 .1 .1 .1 .1 .0)
+    (first .read-numbers .ensures)
+    (second .read-numbers2 .ensures ∙ ap (λ (k : ℕ). numbersAt (s .args .line .now) (16 + k * 8) (length (s .args .b .now))) long-a)
+    (budget .value-at .ensures .0)
+    (found .search .ensures .0)
+    (found .search .ensures .1 .0)
+    (found .search .ensures .1 .1))
     (put .put-reply .ensures)
 
 pub solve-spec : {M : Type 1} → statement M
