@@ -6,7 +6,8 @@
 --     isProblem l      not refused with 1: the counts are right, and the length agrees with them
 --     lineRefusal l    9, 1, or 0 if the line is a problem; 3 is left to the search
 --     sideA, sideB     the numbers of the two sides
-use mathlib.Core.List.{List}
+--     problemFrame     the frame of a problem, without line end; that it is read back as that problem: proofs/Theorems/Problem.antt
+use mathlib.Core.List.{List, _++_}
 use mathlib.Core.Bool.{Bool, _&&_}
 use Prim.Native.Nat.{ℕ, _+_, _*_, _%_}
 use lib.Dec.{eqb, leb}
@@ -15,7 +16,7 @@ use lib.IntN.{ℤ}
 use Rattle.integers.specs.Below.{allBelow}
 use Rattle.integers.specs.Run.{tabulate}
 use Rattle.checker.specs.Refutation.{unless}
-use Rattle.frames.specs.Hex.{isDigit, valueAt, numberAt}
+use Rattle.frames.specs.Hex.{isDigit, valueAt, numberAt, hex, hexes}
 
 abbrev pub areDigits : List ℕ → Bool
 areDigits l = allBelow (length l) (λ i. isDigit (getD l i 0))
@@ -55,3 +56,6 @@ sideA l = numbersAt l 16 (sideLong (nOf l) (maOf l))
 
 abbrev pub sideB : List ℕ → List ℤ
 sideB l = numbersAt l (16 + sideLong (nOf l) (maOf l) * 8) (sideLong (nOf l) (mbOf l))
+
+unfoldable pub problemFrame : ℕ → ℕ → ℕ → ℕ → List ℤ → List ℤ → List ℕ
+problemFrame n ma mb budget a b = hex 2 1 ++ (hex 2 n ++ (hex 2 ma ++ (hex 2 mb ++ (hex 8 budget ++ (hexes 8 a ++ hexes 8 b)))))

@@ -5,6 +5,7 @@
 --     digits-append  digits and then digits are digits
 --     hex-digits     hex k v is digits                            hexes-digits  hexes k run is digits
 --     value-round    k digits of a number below 16 ^ k, read back from wherever they stand
+--     value-skip     a number is read past a text as without it
 --     hex-low        the lowest k digits are those of the number modulo 16 ^ k
 --
 -- Assumes nothing.
@@ -102,6 +103,13 @@ module _ (before : List ℕ) where
       ap (λ (t : List ℕ). valueAt t (length before) k * 16 + digitOf (getD t (length before + k) 0)) joined
       ∙ ap₂ (λ (x y : ℕ). x * 16 + y) (value-round k (v / 16) rest few) (ap digitOf digit ∙ char-value (v % 16) (omega arith))
       ∙ omega arith
+
+pub value-skip : (u v : List ℕ) (i k : ℕ) → valueAt (u ++ v) (length u + i) k ≡ valueAt v i k
+unfolding valueAt
+value-skip u v i zero = refl
+value-skip u v i (suc k) =
+    let place : length u + i + k ≡ length u + (i + k) = omega arith in
+    ap₂ (λ (x y : ℕ). x * 16 + digitOf y) (value-skip u v i k) (ap (λ (j : ℕ). getD (u ++ v) j 0) place ∙ getD-append-add u v (i + k) 0)
 
 pub hex-low : (k v t : ℕ) → hex k (v + 16 ^ k * t) ≡ hex k v
 unfolding hex

@@ -1,9 +1,10 @@
 -- What the refusals before any search say.
 --
 --     small           a side of at most 12 rows over at most 12 variables has at most 168 numbers
+--     frame-tests, problem-tests     what the tests of a frame, and of its counts, decide
 --     frame-long      a frame has at least 16 characters          frame-digits    all of them digits
 --     Lawful l        all are digits, the counts are small, and the length of l is what they say
---     lawful          a line that is not refused is Lawful
+--     lawful          a line that is not refused is Lawful         taken    a frame with right counts is not refused
 --     Fit             the same of counts as the code has them, and of the two sides that they give
 --     fit             the counts of a line that is not refused Fit
 --
@@ -33,24 +34,33 @@ pub record Lawful (l : List ℕ) : Type 0 where
 itself : (t : Bool) → Decides t (t ≡ true)
 itself t = record { yes = λ e. e; is = λ e. e }
 
--- the tests of a frame
-tests : (l : List ℕ) → Decides (isFrame l) ((length l ≤ 1360) × ((16 ≤ length l) × ((length l % 2 ≡ 0) × ((areDigits l ≡ true) × (valueAt l 0 2 ≡ 1)))))
+-- the tests of a frame, and of a problem
+pub frame-tests : (l : List ℕ) → Decides (isFrame l) ((length l ≤ 1360) × ((16 ≤ length l) × ((length l % 2 ≡ 0) × ((areDigits l ≡ true) × (valueAt l 0 2 ≡ 1)))))
 unfolding isFrame
-tests l = by-and (by-le (length l) 1360) (by-and (by-le 16 (length l)) (by-and (by-eq (length l % 2) 0) (by-and (itself (areDigits l)) (by-eq (valueAt l 0 2) 1))))
+frame-tests l = by-and (by-le (length l) 1360) (by-and (by-le 16 (length l)) (by-and (by-eq (length l % 2) 0) (by-and (itself (areDigits l)) (by-eq (valueAt l 0 2) 1))))
 
 pub frame-long : (l : List ℕ) → isFrame l ≡ true → 16 ≤ length l
-frame-long l e = tests l .yes e .1 .0
+frame-long l e = frame-tests l .yes e .1 .0
 
 pub frame-digits : (l : List ℕ) → isFrame l ≡ true → areDigits l ≡ true
-frame-digits l e = tests l .yes e .1 .1 .1 .0
+frame-digits l e = frame-tests l .yes e .1 .1 .1 .0
 
-problem-lawful : (l : List ℕ) → isFrame l ≡ true → isProblem l ≡ true → Lawful l
+pub problem-tests : (l : List ℕ) →
+    Decides (isProblem l) ((1 ≤ nOf l) × ((nOf l ≤ 12) × ((1 ≤ maOf l + mbOf l) × ((maOf l + mbOf l ≤ 12) × (length l ≡ 16 + sideLong (nOf l) (maOf l + mbOf l) * 8)))))
 unfolding isProblem
-problem-lawful l f e =
+problem-tests l =
     let n = nOf l in
     let m = maOf l + mbOf l in
-    let all = by-and (by-le 1 n) (by-and (by-le n 12) (by-and (by-le 1 m) (by-and (by-le m 12) (by-eq (length l) (16 + sideLong n m * 8))))) .yes e in
+    by-and (by-le 1 n) (by-and (by-le n 12) (by-and (by-le 1 m) (by-and (by-le m 12) (by-eq (length l) (16 + sideLong n m * 8)))))
+
+problem-lawful : (l : List ℕ) → isFrame l ≡ true → isProblem l ≡ true → Lawful l
+problem-lawful l f e =
+    let all = problem-tests l .yes e in
     record { digits = frame-digits l f; few-n = all .1 .0; few-m = all .1 .1 .1 .0; long = all .1 .1 .1 .1 }
+
+pub taken : (l : List ℕ) → isFrame l ≡ true → isProblem l ≡ true → lineRefusal l ≡ 0
+unfolding lineRefusal
+taken l e f = simp (e, f)
 
 none : (s t : Bool) → unless s 9 (unless t 1 0) ≡ 0 → (s ≡ true) × (t ≡ true)
 none true true e = (refl, refl)
