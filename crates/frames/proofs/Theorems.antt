@@ -6,7 +6,9 @@
 --     WellFormed    answer-well-formed  line-end-last                    "02 and then 05, or one of 03, 04, 06", each a line of an
 --                                                                        even number of digits and one line end
 --     Length        answer-some  answer-short                            no answer is empty, and none is longer than answerMax
+--     Example       example-answered                                     the paper's own line and its answer, by computation
 pub mod Round
 pub mod Problem
 pub mod WellFormed
 pub mod Length
+pub mod Example
