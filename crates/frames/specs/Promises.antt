@@ -1,0 +1,44 @@
+-- What the theorems of proofs/Theorems say of the definitions above.
+--
+--     IsLine k text     text is digits, an even number of them, and then one line end; its first byte is k. A line end is no digit,
+--                       so that there is no other
+--     IsAnswer text     "02 and then 05, or one of 03, 04, 06"
+--     Fits32 run        each number of a run fits 4 bytes
+--     Reads             a line is read as a problem: its counts, its budget and its two sides
+use mathlib.Core.Path.{_≡_}
+use mathlib.Core.Bool.{true}
+use mathlib.Core.List.{List, _++_}
+use Prim.Native.Nat.{ℕ, _%_, _<_}
+use lib.ListN.{length}
+use lib.IntN.{ℤ}
+use mir.Syntax.{w32}
+use mir.Val.{SFits}
+use Rattle.integers.specs.Run.{at}
+use Rattle.frames.specs.Hex.{valueAt}
+use Rattle.frames.specs.Problem.{areDigits, lineRefusal, nOf, maOf, mbOf, budgetOf, sideA, sideB}
+use Rattle.frames.specs.Answer.{lineEnd}
+
+pub record IsLine (kind : ℕ) (text : List ℕ) : Type 0 where
+  pub body : List ℕ
+  pub is : text ≡ body ++ lineEnd
+  pub digits : areDigits body ≡ true
+  pub even : length body % 2 ≡ 0
+  pub first : valueAt body 0 2 ≡ kind
+
+pub data IsAnswer : List ℕ → Type 0 where
+  refuted : {refutation interpolant : List ℕ} → IsLine 2 refutation → IsLine 5 interpolant → IsAnswer (refutation ++ interpolant)
+  solved : {point : List ℕ} → IsLine 3 point → IsAnswer point
+  unfinished : {steps : List ℕ} → IsLine 4 steps → IsAnswer steps
+  refused : {refusal : List ℕ} → IsLine 6 refusal → IsAnswer refusal
+
+pub record Fits32 (run : List ℤ) : Type 0 where
+  pub each : (i : ℕ) → i < length run → SFits w32 (at run i)
+
+pub record Reads (l : List ℕ) (n ma mb budget : ℕ) (a b : List ℤ) : Type 0 where
+  pub taken : lineRefusal l ≡ 0
+  pub is-n : nOf l ≡ n
+  pub is-ma : maOf l ≡ ma
+  pub is-mb : mbOf l ≡ mb
+  pub is-budget : budgetOf l ≡ budget
+  pub is-a : sideA l ≡ a
+  pub is-b : sideB l ≡ b
