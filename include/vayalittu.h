@@ -18,6 +18,7 @@
  *   6  q fails to divide a column sum or the product of a numerator and its row's modulus
  *   7  q divides the sum of the products of numerators and constants
  *   8  the search ends as too large
+ *   9  a text line is no frame
  */
 #ifndef VAYALITTU_H
 #define VAYALITTU_H
@@ -31,6 +32,9 @@ extern "C" {
 
 /* The numbers of a table: 36 rows of 24 cells, row by row. */
 #define VAYALITTU_CELLS 864
+
+/* The longest answer to a text line, in bytes. */
+#define VAYALITTU_ANSWER_MAX 346
 
 /* What a search answers.
  *   refusal   0, or the number of the refusal (8 together with outcome 3)
@@ -74,6 +78,11 @@ vayalittu_answer vayalittu_search(size_t n, size_t ma, size_t mb, const int64_t 
  * 3, which write nothing. */
 uint32_t vayalittu_table(size_t n, size_t ma, size_t mb, const int64_t *a, size_t a_len, const int64_t *b, size_t b_len,
                          uint32_t budget, int64_t *cells, size_t cells_len);
+
+/* Answers one text line, a frame 01 in lower-case hexadecimal without its line end, as the program `interp` does: writes the answer
+ * lines with their line ends into `out`, and answers how many bytes they are. Any bytes are taken; what is no frame is answered
+ * with refusal 9 in a frame 06. Where out_len is below VAYALITTU_ANSWER_MAX it answers 0 and writes nothing. */
+size_t vayalittu_respond(const uint8_t *line, size_t line_len, uint8_t *out, size_t out_len);
 
 #ifdef __cplusplus
 }

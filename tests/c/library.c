@@ -173,6 +173,36 @@ static void the_first_table(void)
     EXPECT(holds(cells, VAYALITTU_CELLS, expected));
 }
 
+/* ---- Text lines */
+
+static void responded(const char *line, const char *answer)
+{
+    uint8_t blank[VAYALITTU_ANSWER_MAX], *out;
+    size_t length = strlen(answer);
+    memset(blank, '?', sizeof blank);
+    out = edge(blank, sizeof blank);
+    EXPECT(vayalittu_respond(edge(line, strlen(line)), strlen(line), out, sizeof blank) == length);
+    EXPECT(memcmp(out, answer, length) == 0 && memcmp(out + length, blank, sizeof blank - length) == 0);
+}
+
+static void text_lines(void)
+{
+    uint8_t blank[VAYALITTU_ANSWER_MAX - 1], *out;
+    memset(blank, '?', sizeof blank);
+    out = edge(blank, sizeof blank);
+    /* the paper's line, example 3 of the article with budget 4 */
+    responded("010301010000000400000001fffffffe0000000000000000000000000000000100000000fffffffe0000000100000000",
+              "02000000040200000002ffffffff00000001\n"
+              "050300000000000000010000000000000000000000000000000000000000000000000000000000000002\n");
+    responded("010301010000000300000001fffffffe0000000000000000000000000000000100000000fffffffe0000000100000000",
+              "0400000003\n");
+    responded("", "060900000000\n");
+    responded("01030101000000", "060900000000\n");
+    responded("0103010100000004", "060100000000\n");
+    EXPECT(vayalittu_respond(NULL, 0, out, sizeof blank) == 0);
+    EXPECT(memcmp(out, blank, sizeof blank) == 0);
+}
+
 /* ---- Refusals, one after the other in the paper's order */
 
 static void everywhere(const problem *p, int64_t q, const int64_t *vector, size_t m, uint32_t refusal)
@@ -221,6 +251,7 @@ int main(void)
         the_papers_facts();
         the_papers_searches();
         the_first_table();
+        text_lines();
         refusals();
     }
     printf("C: %d checks, %d failed\n", checks, failures);

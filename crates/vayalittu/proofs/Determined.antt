@@ -8,6 +8,7 @@ use Rattle.integers.proofs.Determined.{determined}
 use Rattle.checker.specs.Refutation.{refusal}
 use Rattle.checker.specs.Answer.{verdictOf, interpolantAnswer, interpolantRun}
 use Rattle.search.specs.Answer.{searchReply, searchVector, searchPoint, tableReply, tableRun}
+use Rattle.frames.specs.Answer.{respondEnd, respondRun}
 use Rattle.vayalittu.specs.Answers.{verdictNumber, factOf, answerOf, copyNumber}
 use Rattle.vayalittu.specs.declared.Answer.{Answer}
 use Rattle.vayalittu.specs.declared.Fact.{Fact}
@@ -38,3 +39,10 @@ module _ (n ma mb : ℕ) (a b : List ℤ) where
 
     pub table-run-determined : (cells exit other : List ℤ) → exit ≡ tableRun n ma mb a b budget cells → other ≡ tableRun n ma mb a b budget cells → exit ≡ other
     table-run-determined cells exit other = determined
+
+module _ (line out : List ℕ) where
+  pub respond-determined : (r s : ℕ) → r ≡ respondEnd line out 0 → s ≡ respondEnd line out 0 → r ≡ s
+  respond-determined r s = determined
+
+  pub respond-run-determined : (exit other : List ℕ) → exit ≡ respondRun line out 0 → other ≡ respondRun line out 0 → exit ≡ other
+  respond-run-determined exit other = determined

@@ -4,6 +4,7 @@ ghost use Rattle.checker.specs.Refutation.{refusal};
 ghost use Rattle.checker.specs.Answer.{verdictOf, interpolantAnswer, interpolantRun};
 ghost use Rattle.search.specs.Answer.{searchReply, searchVector, searchPoint, tableReply, tableRun};
 ghost use Rattle.search.specs.declared.Reply.the-variants.{Answered};
+ghost use Rattle.frames.specs.Answer.{respondEnd, respondRun};
 ghost use Rattle.vayalittu.specs.Answers.{verdictNumber, factOf, answerOf, copyNumber};
 
 // What a search answers.
@@ -87,6 +88,14 @@ pub extern "C" fn vayalittu_table(
     ensures { λ r. ⌜ now (cells .exit) ≡ tableRun n ma mb (now (a .entry)) (now (b .entry)) budget (now (cells .entry)) ⌝ }
 {
     copied(search::table_after(n, ma, mb, a, b, budget, cells))
+}
+
+#[no_mangle]
+pub extern "C" fn vayalittu_respond(line: &[u8], out: &mut [u8]) -> usize
+    ensures { λ r. ⌜ r ≡ respondEnd (now (line .entry)) (now (out .entry)) 0 ⌝ }
+    ensures { λ r. ⌜ now (out .exit) ≡ respondRun (now (line .entry)) (now (out .entry)) 0 ⌝ }
+{
+    frames::respond(line, out, 0)
 }
 
 fn verdict(given: checker::Verdict) -> u32
