@@ -5,10 +5,13 @@
 --                                                                        problem, and so it is answered
 --     WellFormed    answer-well-formed  line-end-last                    "02 and then 05, or one of 03, 04, 06", each a line of an
 --                                                                        even number of digits and one line end
+--     Refuted       refuted-answered                                     what the search refutes is answered with a vector that the
+--                                                                        checker accepts, and its interpolant
 --     Length        answer-some  answer-short                            no answer is empty, and none is longer than answerMax
 --     Example       example-answered                                     the paper's own line and its answer, by computation
 pub mod Round
 pub mod Problem
 pub mod WellFormed
+pub mod Refuted
 pub mod Length
 pub mod Example

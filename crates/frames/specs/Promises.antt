@@ -3,20 +3,24 @@
 --     IsLine k text     text is digits, an even number of them, and then one line end; its first byte is k. A line end is no digit,
 --                       so that there is no other
 --     IsAnswer text     "02 and then 05, or one of 03, 04, 06"
+--     Certifies text    text is a refutation that the checker accepts, and its interpolant
 --     Fits32 run        each number of a run fits 4 bytes
 --     Reads             a line is read as a problem: its counts, its budget and its two sides
 use mathlib.Core.Path.{_≡_}
 use mathlib.Core.Bool.{true}
 use mathlib.Core.List.{List, _++_}
-use Prim.Native.Nat.{ℕ, _%_, _<_}
+use Prim.Native.Nat.{ℕ, _+_, _%_, _<_}
 use lib.ListN.{length}
 use lib.IntN.{ℤ}
 use mir.Syntax.{w32}
 use mir.Val.{SFits}
 use Rattle.integers.specs.Run.{at}
+use Rattle.checker.specs.Refutation.{refusal}
+use Rattle.checker.specs.Answer.{interpolantAnswer, interpolantRun}
+use Rattle.checker.specs.declared.Answer.the-variants.{Fact}
 use Rattle.frames.specs.Hex.{valueAt}
 use Rattle.frames.specs.Problem.{areDigits, lineRefusal, nOf, maOf, mbOf, budgetOf, sideA, sideB}
-use Rattle.frames.specs.Answer.{lineEnd}
+use Rattle.frames.specs.Answer.{lineEnd, refutationFrame, interpolantFrame, zeros}
 
 pub record IsLine (kind : ℕ) (text : List ℕ) : Type 0 where
   pub body : List ℕ
@@ -30,6 +34,18 @@ pub data IsAnswer : List ℕ → Type 0 where
   solved : {point : List ℕ} → IsLine 3 point → IsAnswer point
   unfinished : {steps : List ℕ} → IsLine 4 steps → IsAnswer steps
   refused : {refusal : List ℕ} → IsLine 6 refusal → IsAnswer refusal
+
+-- of a problem whose search ends as refuted with denominator q
+pub record Certifies (n ma mb : ℕ) (a b : List ℤ) (q : ℤ) (text : List ℕ) : Type 0 where
+  pub steps : ℕ
+  pub vector : List ℤ
+  pub coeffs : List ℤ
+  pub constant : ℤ
+  pub modulus : ℤ
+  pub accepted : refusal n ma mb a b q vector ≡ 0
+  pub stated : interpolantAnswer n ma mb a b q vector (zeros n) ≡ Fact constant modulus
+  pub written : interpolantRun n ma mb a b q vector (zeros n) ≡ coeffs
+  pub is : text ≡ refutationFrame steps (ma + mb) q vector ++ interpolantFrame n coeffs constant modulus
 
 pub record Fits32 (run : List ℤ) : Type 0 where
   pub each : (i : ℕ) → i < length run → SFits w32 (at run i)

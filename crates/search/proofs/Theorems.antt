@@ -1,6 +1,7 @@
 -- What the search's definitions promise, in the terms of specs/, one subject a file.
 --
---     Refused       search-refused-is  table-refused-is                   each refusal exactly in its case, in the paper's order
+--     Refused       search-refused-is  table-refused-is                   each refusal exactly in its case, in the paper's order;
+--                   answered-well-formed                                  what is not refused is well formed
 --     Unfinished    unfinished-is  unfinished-count  unfinished-writes    unfinished exactly when the steps outnumber the budget,
 --                                                                         and then it writes nothing
 --     Larger        finished-larger  reply-larger  runs-larger            once finished, every larger budget answers the same
