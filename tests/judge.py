@@ -1,11 +1,12 @@
-"""The judge: holds the compiled library against what the paper asks, on seeded random problems.
+"""The judge: holds the compiled library and the program `interp` against what the paper asks, on seeded random problems.
 
-    python3 tests/judge.py [SEED [COUNT]]        seed 1 and 2,000 problems, if they are not given
+    python3 tests/judge.py calls [SEED [COUNT]]      the library's calls, on any numbers and lengths; 2,000 problems
+    python3 tests/judge.py lines [SEED [COUNT]]      text lines, whole and damaged, through `interp` and the library; 20,000 lines
 
-It needs the static library (`rt staticlib vayalittu`) and a C compiler to make a shared one of it; Python calls that. It ends
-with a nonzero status at the first disagreement, and shows the call.
+It needs what `rt check interp` and `rt staticlib vayalittu` build, and a C compiler to make a shared library of the static one;
+Python calls that. It ends with a nonzero status at the first disagreement, and shows the call or the line.
 
-Three judges must agree with each answer of the library:
+Three judges must agree with each answer:
   - the paper's steps, one by one (search_reference.py), and the paper's rules for a vector (reference.py): answers, step counts,
     vectors, points, facts, refusals, what every lent run then holds, and the table after every number of steps;
   - a Hermite normal form over unbounded integers (`Solutions`), which knows nothing of those steps: whether a point exists;
@@ -26,6 +27,8 @@ HERE = os.path.dirname(os.path.abspath(__file__))
 ARCHIVE = os.path.join(HERE, '..', 'target', 'staticlib', 'libvayalittu.a')
 OUTCOMES = {1: 'refuted', 2: 'solved', 3: 'too large', 4: 'unfinished'}
 UNWRITTEN = -77                # what a lent run holds before a call
+PROGRAM = os.path.join(HERE, '..', 'target', 'bin', 'interp')
+ANSWER_MAX = 346               # the longest answer to a line
 ALL_TABLES = 60                # up to so many steps, the table after each number of them is compared
 
 
@@ -78,6 +81,13 @@ class Library:
         cells = run_of([UNWRITTEN] * length)
         refusal = self.library.vayalittu_table(*self.problem(n, ma, mb, a, b), ctypes.c_uint32(budget), cells, ctypes.c_size_t(length))
         return refusal, list(cells)[:length]
+
+
+    def respond(self, line, length=ANSWER_MAX):
+        out = ctypes.create_string_buffer(b'?' * length, length)
+        self.library.vayalittu_respond.restype = ctypes.c_size_t
+        end = self.library.vayalittu_respond(line, ctypes.c_size_t(len(line)), out, ctypes.c_size_t(length))
+        return end, out.raw
 
 
 # All solutions of a system, by a Hermite normal form
@@ -268,14 +278,14 @@ def judge_fact(source, call, fact):
             agree(reference.meets(n, coefficients + [constant, modulus], point), holds, 'the fact at a point of a side', *call, fact, point)
 
 
-def judge_answer(library, source, call, answer):
+def judge_answer(source, call, answer):
     """A finished answer is true, by a judge that knows nothing of the steps."""
     n, ma, mb, a, b = call
     outcome, _, q, numerators, point = answer
     exists = Solutions(n, reference.rows_of(n, a + b)).exists
     if outcome == 'refuted':
         agree(exists, False, 'refuted, but a point exists', *call)
-        fact = judge_vector(library, call, q, numerators, n)
+        fact = reference.interpolant(*call, q, numerators, n)
         agree(isinstance(fact, int), False, 'the vector of a search is accepted', *call)
         judge_fact(source, call, fact)
     if outcome == 'solved':
@@ -290,7 +300,9 @@ def judge_problem(library, source):
     m = ma + mb
     answer = judge_search(library, call, search_reference.LARGEST_BUDGET, m, n)
     steps = answer[1]
-    judge_answer(library, source, call, answer)
+    judge_answer(source, call, answer)
+    if answer[0] == 'refuted':
+        judge_vector(library, call, answer[2], answer[3], n)
     for budget in {0, 1, steps - 1, steps, steps + 1, source.randint(0, steps + 5)}:
         judge_search(library, call, budget, m, n)
     budgets = range(steps + 2) if steps <= ALL_TABLES else source.sample(range(steps + 2), 20)
@@ -310,20 +322,110 @@ def judge_problem(library, source):
     return answer[0]
 
 
-def main():
-    seed = int(sys.argv[1]) if len(sys.argv) > 1 else 1
-    count = int(sys.argv[2]) if len(sys.argv) > 2 else 2000
-    library = Library()
+# Lines
+
+def problem_line(call, budget):
+    n, ma, mb, a, b = call
+    counts = ''.join(search_reference.to_hex(x, 1) for x in (1, n, ma, mb))
+    return (counts + search_reference.to_hex(budget, 4) + ''.join(search_reference.to_hex(x, 4) for x in a + b)).encode()
+
+
+def damaged_line(source, line):
+    """A line that something is wrong with, or not; never with a line end in it."""
+    kind = source.randrange(9)
+    at = source.randrange(len(line))
+    if kind == 0:
+        return line[:at]
+    if kind == 1:
+        return line + line[:at]
+    if kind == 2:
+        return line[:at] + bytes([source.choice([c for c in range(256) if c != 10])]) + line[at + 1:]
+    if kind == 3:
+        return line.upper()
+    if kind == 4:
+        return line[:at] + source.choice(b'0123456789abcdef').to_bytes(1, 'big') + line[at + 1:]
+    if kind == 5:
+        return b'0' * source.choice([0, 1, 15, 16, 1358, 1360, 1361, 1362, 5000])
+    if kind == 6:
+        return line[:2] + b'%02x%02x%02x' % tuple(source.choice([0, 1, 3, 11, 12, 13, 255]) for _ in range(3)) + line[8:]
+    if kind == 7:
+        return b'%02x' % source.choice([0, 2, 3, 6, 255]) + line[2:]
+    return line + b'\r'
+
+
+def interpolant_frame(n, fact):
+    coefficients, constant, modulus = fact
+    return '05' + search_reference.to_hex(n, 1) + ''.join(search_reference.to_hex(x, 8) for x in coefficients + [constant, modulus])
+
+
+def expected_answer(source, line, call, budget):
+    """The answer lines by the paper's steps and rules; for a problem that was not damaged, the other judges agree with it."""
+    first = search_reference.answer_line(line)
+    lines = [first]
+    if call is not None:
+        n, ma, mb, _, _ = call
+        answer = search_reference.search(*call, budget, ma + mb, n)
+        judge_answer(source, call, answer)
+    if first.startswith('02'):
+        frame = bytes.fromhex(line.decode())
+        n, ma, mb = frame[1:4]
+        numbers = [int.from_bytes(frame[at:at + 4], 'big', signed=True) for at in range(8, len(frame), 4)]
+        found = bytes.fromhex(first)
+        q = int.from_bytes(found[6:10], 'big', signed=True)
+        p = [int.from_bytes(found[at:at + 4], 'big', signed=True) for at in range(10, len(found), 4)]
+        cut = ma * (n + 2)
+        lines.append(interpolant_frame(n, reference.interpolant(n, ma, mb, numbers[:cut], numbers[cut:], q, p, n)))
+    return ''.join(text + '\n' for text in lines).encode()
+
+
+def judge_lines(library, seed, count):
+    lines, answers = [], []
+    for k in range(count):
+        source = random.Random(f'{seed} line {k}')
+        call = random_problem(source)
+        budget = source.choice([0, 1, 5, 20, 8076, 8076, 8076, 2 ** 32 - 1])
+        line = problem_line(call, budget)
+        if source.random() < 0.3:
+            line, call = damaged_line(source, line), None
+        answer = expected_answer(source, line, call, budget)
+        room = [ANSWER_MAX, ANSWER_MAX + 1, 1000][k % 3]
+        agree(library.respond(line, room), (len(answer), answer + b'?' * (room - len(answer))), 'respond', line)
+        agree(library.respond(line, ANSWER_MAX - 1), (0, b'?' * (ANSWER_MAX - 1)), 'respond without room', line)
+        lines.append(line)
+        answers.append(answer)
+    # a last line without its end counts if it has any character
+    while lines and lines[-1] == b'':
+        lines.pop(), answers.pop()
+    found = subprocess.run([PROGRAM], input=b'\n'.join(lines), stdout=subprocess.PIPE, check=True).stdout
+    for line, answer in zip(lines, answers):
+        agree(found[:len(answer)], answer, 'interp', line)
+        found = found[len(answer):]
+    agree(found, b'', 'interp writes more than the answers')
+    return f'{count} lines of seed {seed} agree'
+
+
+def judge_calls(library, seed, count):
     outcomes = {}
     for k in range(count):
-        source = random.Random(f'{seed} {k}')
-        try:
-            outcome = judge_problem(library, source)
-        except Disagreement as disagreement:
-            sys.exit(f'disagreement at problem {k} of seed {seed}: {disagreement}')
+        outcome = judge_problem(library, random.Random(f'{seed} {k}'))
         outcomes[outcome] = outcomes.get(outcome, 0) + 1
     told = ', '.join(f'{name} {number}' for name, number in sorted(outcomes.items()))
-    print(f'{count} problems of seed {seed} agree: {told}')
+    return f'{count} problems of seed {seed} agree: {told}'
+
+
+MODES = {'calls': (judge_calls, 2000), 'lines': (judge_lines, 20000)}
+
+
+def main():
+    if len(sys.argv) < 2 or sys.argv[1] not in MODES:
+        sys.exit(__doc__)
+    judge, count = MODES[sys.argv[1]]
+    seed = int(sys.argv[2]) if len(sys.argv) > 2 else 1
+    count = int(sys.argv[3]) if len(sys.argv) > 3 else count
+    try:
+        print(judge(Library(), seed, count))
+    except Disagreement as disagreement:
+        sys.exit(f'disagreement, seed {seed}: {disagreement}')
 
 
 if __name__ == '__main__':
