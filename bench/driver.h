@@ -45,7 +45,7 @@ static void make_problems(const family *f)
 }
 
 /* Measures `decide` on all problems, each `repeats` times a round. */
-static void measure(const char *name, const char *what, int (*decide)(size_t), long repeats)
+static inline void measure(const char *name, const char *what, int (*decide)(size_t), long repeats)
 {
     static char answers[DISTINCT + 1];
     double best = 1e9;
