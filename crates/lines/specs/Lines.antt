@@ -16,6 +16,7 @@
 --     endFrom s i       the place of the next line end from place i on, or the length of s if there is none
 --     part s i j        the bytes from place i up to place j
 --     keptRun, keptHeld the carry, and how much of it is in use, with more bytes of an unfinished line, up to its cap
+--     answeredRun       the carry after a line is answered, when none of it is in use
 --     fits              whether the call does anything: the carry is `cap` long and no more of it is in use, the place is in the
 --                       chunk, and there is room for the longest answer
 --     fedProgress       what it answers        fedCarry, fedOut    what it leaves: nothing is changed if it does not fit; without a
@@ -96,6 +97,10 @@ keptRun carry held bytes = paste carry held bytes (keptCount held bytes)
 unfoldable pub keptHeld : ℕ → List ℕ → ℕ
 keptHeld held bytes = held + keptCount held bytes
 
+-- what a line that is answered leaves: one that stands whole in the chunk is not kept
+unfoldable pub answeredRun : List ℕ → ℕ → List ℕ → List ℕ
+answeredRun carry held bytes = cond (eqb held 0) carry (keptRun carry held bytes)
+
 unfoldable pub isCarry : List ℕ → ℕ → Bool
 isCarry carry held = eqb (length carry) cap && leb held cap
 
@@ -122,10 +127,11 @@ fedProgress chunk at carry held out made =
     (record { used = endFrom chunk at; made = made; held = keptHeld held (bytesFrom chunk at) }))
     (record { used = at; made = made; held = held })
 
--- a line that stands whole in the chunk leaves the carry alone
 unfoldable pub fedCarry : List ℕ → ℕ → List ℕ → ℕ → List ℕ → ℕ → List ℕ
 fedCarry chunk at carry held out made =
-    cond (fits chunk at carry held out made) (cond (isWhole chunk at && eqb held 0) carry (keptRun carry held (bytesFrom chunk at))) carry
+    cond (fits chunk at carry held out made)
+    (cond (isWhole chunk at) (answeredRun carry held (bytesFrom chunk at)) (keptRun carry held (bytesFrom chunk at)))
+    carry
 
 unfoldable pub fedOut : List ℕ → ℕ → List ℕ → ℕ → List ℕ → ℕ → List ℕ
 fedOut chunk at carry held out made =

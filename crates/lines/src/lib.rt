@@ -5,7 +5,7 @@ ghost use Prim.Native.Nat.{_+_, _-_, _≤_, min};
 ghost use lib.ListN.{length, take, drop};
 ghost use lib.Seq.{paste};
 ghost use Rattle.frames.specs.Answer.{respondEnd, respondRun};
-ghost use Rattle.lines.specs.Lines.{cap, part, endFrom, keptHeld, keptRun, isCarry, fits, fedProgress, fedCarry, fedOut, finishEnd, finishRun};
+ghost use Rattle.lines.specs.Lines.{cap, part, endFrom, keptHeld, keptRun, answeredRun, isCarry, fits, fedProgress, fedCarry, fedOut, finishEnd, finishRun};
 
 // How far a stream is: the place in the chunk up to which its bytes are taken, the place in the run of answers up to which it is
 // written, and how many places of the carry are in use.
@@ -39,15 +39,7 @@ pub fn feed(
     }
     let end = line_end(chunk, at);
     if end < chunk.len() {
-        if held == 0 {
-            let place = frames::respond(&chunk[at..end], out, made);
-            return Progress {
-                used: end + 1,
-                made: place,
-                held: 0,
-            };
-        }
-        let place = answer_kept(chunk, at, end, carry, held, out, made);
+        let place = answer(chunk, at, end, carry, held, out, made);
         return Progress {
             used: end + 1,
             made: place,
@@ -118,8 +110,9 @@ fn line_end(chunk: &[u8], at: usize) -> usize
     i
 }
 
-// Answers the line that starts in the carry and ends with the bytes from `at` up to `end`.
-fn answer_kept(
+// Answers the line that starts in the carry, if that has any of it, and ends with the bytes from `at` up to `end`. A line that stands
+// whole in the chunk is not copied.
+fn answer(
     chunk: &[u8],
     at: usize,
     end: usize,
@@ -131,9 +124,12 @@ fn answer_kept(
     requires { ⌜ (at ≤ end) × (end ≤ length (now chunk)) ⌝ }
     requires { ⌜ (length (now carry) ≡ cap) × (held ≤ cap) ⌝ }
     ensures { λ r. ⌜ r ≡ respondEnd (take held (now (carry .entry)) ++ part (now (chunk .entry)) at end) (now (out .entry)) made ⌝ }
-    ensures { λ r. ⌜ now (carry .exit) ≡ keptRun (now (carry .entry)) held (part (now (chunk .entry)) at end) ⌝ }
+    ensures { λ r. ⌜ now (carry .exit) ≡ answeredRun (now (carry .entry)) held (part (now (chunk .entry)) at end) ⌝ }
     ensures { λ r. ⌜ now (out .exit) ≡ respondRun (take held (now (carry .entry)) ++ part (now (chunk .entry)) at end) (now (out .entry)) made ⌝ }
 {
+    if held == 0 {
+        return frames::respond(&chunk[at..end], out, made);
+    }
     let kept = keep(chunk, at, end, carry, held);
     frames::respond(&carry[..kept], out, made)
 }

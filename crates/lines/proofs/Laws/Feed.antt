@@ -1,8 +1,7 @@
 -- What one call of `feed` or `finish` answers and leaves, and what it makes of the stream.
 --
 --     Leaves         what the contract of `feed` says
---     fed-unfit      a call that does not fit                      fed-kept        no line end
---     fed-whole      a line that stands whole in the chunk         fed-crossing    a line that starts in the carry
+--     fed-unfit      a call that does not fit       fed-kept    no line end       fed-line    a whole line
 --     respond-cap    `respond` answers a line as what is kept of it
 --     respond-text   the bytes that `respond` writes are the answer
 --     Fed            what is left to answer of the chunk was the call's text and what is left after it
@@ -10,23 +9,22 @@
 --     finish-text    the bytes that `finish` writes are what the end of the input answers
 --
 -- Assumes nothing.
-use mathlib.Core.Path.{_≡_, refl, sym, _∙_, ap, ap₂, subst}
-use mathlib.Core.Bool.{Bool, true, false, cond, not, _&&_}
+use mathlib.Core.Path.{_≡_, sym, _∙_, ap, ap₂, subst}
+use mathlib.Core.Bool.{true, false, cond}
 use mathlib.Core.List.{List, [], _∷_, _++_}
-use Prim.Native.Nat.{ℕ, zero, suc, _+_, _-_, _<_, _≤_}
+use Prim.Native.Nat.{ℕ, suc, _+_, _-_, _<_, _≤_}
 use native.Mathlib.Decide.{decLt, ℕ-discrete}
 use native.Mathlib.Omega.{arith}
 use borrow.Author.Tests.{lt-ltb, le-ltb, eq-eqb, ne-eqb}
-use lib.Dec.{eqb, ltb, leb}
 use lib.ListN.{length, take, drop, length-take, length-drop}
 use lib.Seq.{sets, length-take-le, drop-drop, drop-at}
 use Rattle.frames.specs.Answer.{answerMax, hasRoom, answerOf, respondEnd, respondRun}
-use Rattle.frames.proofs.Laws.Respond.{Answered, respond-answered, respond-kept}
-use Rattle.lines.specs.Lines.{cap, push, outOf, restOf, lastOf, before, endFrom, part, keptRun, keptHeld, isCarry, fits, bytesFrom, isWhole, lineFrom, fedProgress, fedCarry, fedOut, isUnfinished, finishEnd, finishRun}
+use Rattle.frames.proofs.Laws.Respond.{respond-answered, respond-kept}
+use Rattle.lines.specs.Lines.{cap, outOf, restOf, lastOf, before, endFrom, part, keptRun, keptHeld, answeredRun, fits, bytesFrom, lineFrom, fedProgress, fedCarry, fedOut, finishEnd, finishRun}
 use Rattle.lines.specs.Promises.{finishText}
 use Rattle.lines.specs.declared.Progress.{Progress}
 use Rattle.lines.proofs.Laws.Ends.{end-after, end-within, before-found}
-use Rattle.lines.proofs.Laws.Kept.{part-slice, kept-text, kept-held, kept-length}
+use Rattle.lines.proofs.Laws.Kept.{part-slice, kept-text, kept-held, kept-length, answered-length}
 use Rattle.lines.proofs.Laws.Fits.{Lawful, lawful-is, Fitting, fitting}
 use Rattle.lines.proofs.Laws.Machine.{out-stretch, rest-stretch, answer-of-cap, out-line, rest-line, last-some}
 
@@ -48,15 +46,10 @@ module _ (chunk : List ℕ) (at : ℕ) (carry : List ℕ) (held : ℕ) (out : Li
     unfolding fedProgress fedCarry fedOut
     kept-leaves h = let w = le-ltb (endFrom chunk at) (length chunk) h in (simp (f, w), (simp (f, w), simp (f, w)))
 
-    crossing-leaves : endFrom chunk at < length chunk → (held ≡ 0 → ⊥) →
-        Leaves (progress (endFrom chunk at + 1) (respondEnd (lineFrom chunk at carry held) out made) 0) (keptRun carry held (bytesFrom chunk at)) (respondRun (lineFrom chunk at carry held) out made)
+    line-leaves : endFrom chunk at < length chunk →
+        Leaves (progress (endFrom chunk at + 1) (respondEnd (lineFrom chunk at carry held) out made) 0) (answeredRun carry held (bytesFrom chunk at)) (respondRun (lineFrom chunk at carry held) out made)
     unfolding fedProgress fedCarry fedOut
-    crossing-leaves h z = let w = lt-ltb (endFrom chunk at) (length chunk) h in let n = ne-eqb held 0 z in (simp (f, w), (simp (f, w, n), simp (f, w)))
-
-    whole-leaves : endFrom chunk at < length chunk → held ≡ 0 →
-        Leaves (progress (endFrom chunk at + 1) (respondEnd (lineFrom chunk at carry held) out made) 0) carry (respondRun (lineFrom chunk at carry held) out made)
-    unfolding fedProgress fedCarry fedOut
-    whole-leaves h z = let w = lt-ltb (endFrom chunk at) (length chunk) h in let n = eq-eqb held 0 z in (simp (f, w), (simp (f, w, n), simp (f, w)))
+    line-leaves h = let w = lt-ltb (endFrom chunk at) (length chunk) h in (simp (f, w), (simp (f, w), simp (f, w)))
 
     -- in the terms of the code, which has the line end at `end`
     module _ (end : ℕ) (e : end ≡ endFrom chunk at) where
@@ -68,21 +61,15 @@ module _ (chunk : List ℕ) (at : ℕ) (carry : List ℕ) (held : ℕ) (out : Li
             (k ∙ ap (λ (u : ℕ). keptRun carry held (part chunk at u)) e ∙ l .1 .0, l .1 .1),
           )
 
-      pub fed-crossing : {place : ℕ} {carry′ out′ : List ℕ} → end < length chunk → (held ≡ 0 → ⊥) → place ≡ respondEnd (take held carry ++ part chunk at end) out made →
-          carry′ ≡ keptRun carry held (part chunk at end) → out′ ≡ respondRun (take held carry ++ part chunk at end) out made → Leaves (progress (end + 1) place 0) carry′ out′
-      fed-crossing h z g k o =
-          let l = crossing-leaves (rw e at h) z in (
+      pub fed-line : {place : ℕ} {carry′ out′ : List ℕ} → end < length chunk → place ≡ respondEnd (take held carry ++ part chunk at end) out made →
+          carry′ ≡ answeredRun carry held (part chunk at end) → out′ ≡ respondRun (take held carry ++ part chunk at end) out made → Leaves (progress (end + 1) place 0) carry′ out′
+      fed-line h g k o =
+          let l = line-leaves (rw e at h) in (
             ap₂ (λ (u p : ℕ). progress (u + 1) p 0) e (g ∙ ap (λ (u : ℕ). respondEnd (take held carry ++ part chunk at u) out made) e) ∙ l .0,
-            (k ∙ ap (λ (u : ℕ). keptRun carry held (part chunk at u)) e ∙ l .1 .0, o ∙ ap (λ (u : ℕ). respondRun (take held carry ++ part chunk at u) out made) e ∙ l .1 .1),
-          )
-
-      pub fed-whole : {place : ℕ} {out′ : List ℕ} → end < length chunk → held ≡ 0 → place ≡ respondEnd (part chunk at end) out made → out′ ≡ respondRun (part chunk at end) out made →
-          Leaves (progress (end + 1) place 0) carry out′
-      fed-whole h z g o =
-          let l = whole-leaves (rw e at h) z in
-          let line : part chunk at end ≡ lineFrom chunk at carry held = ap₂ (λ (u k : ℕ). take k carry ++ part chunk at u) e (sym z) in (
-            ap₂ (λ (u p : ℕ). progress (u + 1) p 0) e (g ∙ ap (λ (t : List ℕ). respondEnd t out made) line) ∙ l .0,
-            (l .1 .0, o ∙ ap (λ (t : List ℕ). respondRun t out made) line ∙ l .1 .1),
+            (
+              k ∙ ap (λ (u : ℕ). answeredRun carry held (part chunk at u)) e ∙ l .1 .0,
+              o ∙ ap (λ (u : ℕ). respondRun (take held carry ++ part chunk at u) out made) e ∙ l .1 .1,
+            ),
           )
 
 module _ (line out : List ℕ) (made : ℕ) where
@@ -160,9 +147,9 @@ module _ (chunk : List ℕ) (at : ℕ) (carry : List ℕ) (held : ℕ) (out : Li
         rest = rest-bytes ∙ ap (λ (q : List ℕ). restOf q (drop e chunk)) (sym k);
       }
 
-  line-fed : (carry′ : List ℕ) → length carry′ ≡ cap → endFrom chunk at < length chunk →
-      Fed chunk at carry held out made (progress (endFrom chunk at + 1) (respondEnd (lineFrom chunk at carry held) out made) 0) carry′ (respondRun (lineFrom chunk at carry held) out made)
-  line-fed carry′ long h =
+  line-fed : endFrom chunk at < length chunk →
+      Fed chunk at carry held out made (progress (endFrom chunk at + 1) (respondEnd (lineFrom chunk at carry held) out made) 0) (answeredRun carry held (bytesFrom chunk at)) (respondRun (lineFrom chunk at carry held) out made)
+  line-fed h =
       let line = lineFrom chunk at carry held in
       let e = endFrom chunk at in
       let d = at-end h in
@@ -170,7 +157,7 @@ module _ (chunk : List ℕ) (at : ℕ) (carry : List ℕ) (held : ℕ) (out : Li
         inside = omega arith;
         moves = λ g. omega (arith, end-after chunk at);
         within = omega (arith, respond-answered line out made (fit .room) .within, respond-kept line out made);
-        kept = record { long = long; few = omega arith };
+        kept = record { long = answered-length carry held (bytesFrom chunk at) (fit .kept .long) (fit .kept .few) ∙ fit .kept .long; few = omega arith };
         text = out-bytes ∙ ap (outOf (take cap line)) d ∙ out-line line (drop (e + 1) chunk) ∙ ap (λ (t : List ℕ). t ++ outOf [] (drop (e + 1) chunk)) (sym (respond-text line out made (fit .room)));
         rest = rest-bytes ∙ ap (restOf (take cap line)) d ∙ rest-line (take cap line) (drop (e + 1) chunk);
       }
@@ -185,11 +172,7 @@ module _ (chunk : List ℕ) (at : ℕ) (carry : List ℕ) (held : ℕ) (out : Li
   pub fed : Fed chunk at carry held out made (fedProgress chunk at carry held out made) (fedCarry chunk at carry held out made) (fedOut chunk at carry held out made)
   fed = elim (decLt (endFrom chunk at) (length chunk)) [
     | no h ↦ as-left (kept-leaves chunk at carry held out made f (omega arith)) (kept-fed (omega arith))
-    | yes h ↦ elim (ℕ-discrete held 0) [
-      | yes z ↦ as-left (whole-leaves chunk at carry held out made f h z) (line-fed carry (fit .kept .long) h)
-      | no z ↦ as-left (crossing-leaves chunk at carry held out made f h z)
-          (line-fed (keptRun carry held (bytesFrom chunk at)) (kept-length carry held (bytesFrom chunk at) (fit .kept .long) (fit .kept .few) ∙ fit .kept .long) h)
-    ]
+    | yes h ↦ as-left (line-leaves chunk at carry held out made f h) (line-fed h)
   ]
 
 pub finish-text : (carry : List ℕ) (held : ℕ) (out : List ℕ) (made : ℕ) → Lawful carry held → made + answerMax ≤ length out → finishText carry held out made ≡ lastOf (take held carry)

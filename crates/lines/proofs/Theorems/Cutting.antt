@@ -7,21 +7,20 @@
 --     stream-ends    and so can any chunks, to the end of the input
 --
 -- Assumes nothing.
-use mathlib.Core.Path.{_≡_, refl, sym, _∙_, ap, ap₂, subst}
-use mathlib.Core.Bool.{true}
-use mathlib.Core.List.{List, [], _∷_, _++_, append-assoc, append-nil}
-use Prim.Native.Nat.{ℕ, zero, suc, _+_, _-_, _<_, _≤_}
+use mathlib.Core.Path.{_≡_, sym, _∙_, ap, ap₂, subst}
+use mathlib.Core.List.{List, [], _∷_, _++_, append-assoc}
+use Prim.Native.Nat.{ℕ, zero, suc, _+_, _-_, _≤_}
 use native.Mathlib.Decide.{decLt}
 use native.Mathlib.Omega.{arith}
 use borrow.Author.Tests.{leb-true, le-leb}
 use lib.ListN.{length, take, drop}
 use lib.Seq.{drop-length}
-use Rattle.frames.specs.Answer.{answerMax, hasRoom}
-use Rattle.lines.specs.Lines.{linesFrom, answers, cap, outOf, restOf, lastOf, fits, fedProgress, fedCarry, fedOut}
+use Rattle.frames.specs.Answer.{answerMax}
+use Rattle.lines.specs.Lines.{linesFrom, answers, cap, outOf, restOf, lastOf, fedProgress, fedCarry}
 use Rattle.lines.specs.Promises.{joined, fedText, finishText, Calls, over, call, Stream, ended, more}
 use Rattle.lines.proofs.Laws.Fits.{Lawful, fitting-is}
 use Rattle.lines.proofs.Laws.Machine.{rest-append, out-append, meant}
-use Rattle.lines.proofs.Laws.Feed.{Fed, fed, finish-text}
+use Rattle.lines.proofs.Laws.Feed.{fed, finish-text}
 
 -- what the calls on one chunk write and leave, told by the machine
 record Taken (chunk : List ℕ) (at : ℕ) (carry : List ℕ) (held : ℕ) (text carry′ : List ℕ) (held′ : ℕ) : Type 0 where

@@ -1,10 +1,10 @@
 -- `lines::finish` meets its contract: it answers what the carry has, if anything. Assumes nothing.
-use mathlib.Core.Path.{_≡_, sym, _∙_}
+use mathlib.Core.Path.{sym, _∙_}
 use native.Mathlib.Omega.{arith}
 use borrow.Author.Tests.{eq-eqb, ne-eqb, not-true, not-false}
 use borrow.Author.Needs.{needs}
 use lib.Seq.{length-take-le}
-use Rattle.lines.specs.Lines.{isCarry, finishEnd, finishRun}
+use Rattle.lines.specs.Lines.{finishEnd, finishRun}
 use Rattle.lines.proofs.Laws.Fits.{lawful}
 use Rattle.lines.proofs.finish.Statement.{statement}
 use Rattle.lines.proofs.finish.Tie as tie

@@ -1,14 +1,12 @@
 -- `lines::is_fit` meets its contract: each return is what the tests on the way say. Assumes nothing.
-use mathlib.Core.Path.{_≡_, sym, _∙_}
-use mathlib.Core.Bool.{true}
+use mathlib.Core.Path.{sym, _∙_}
 use native.Mathlib.Omega.{arith}
-use Prim.Native.Nat.{ℕ, _+_, _-_}
+use Prim.Native.Nat.{_+_}
 use borrow.Author.Tests.{le-leb, lt-leb, not-true, not-false}
 use borrow.Author.Needs.{needs}
-use lib.Dec.{leb}
 use lib.ListN.{length}
 use Rattle.frames.specs.Answer.{answerMax}
-use Rattle.lines.specs.Lines.{isCarry, fits}
+use Rattle.lines.specs.Lines.{fits}
 use Rattle.lines.proofs.Laws.Fits.{room-left}
 use Rattle.lines.proofs.is_fit.Statement.{statement}
 use Rattle.lines.proofs.is_fit.Tie as tie

@@ -1,9 +1,9 @@
 -- `lines::keep` meets its contract: what is copied is what is kept. Assumes nothing.
-use mathlib.Core.Path.{_≡_, sym, _∙_, ap}
-use Prim.Native.Nat.{ℕ, _-_}
+use mathlib.Core.Path.{_∙_}
+use Prim.Native.Nat.{_-_}
 use native.Mathlib.Omega.{arith}
 use borrow.Author.Needs.{needs}
-use lib.ListN.{length, drop, length-drop}
+use lib.ListN.{drop, length-drop}
 use Rattle.lines.specs.Lines.{cap}
 use Rattle.lines.proofs.Laws.Kept.{kept-copied}
 use Rattle.lines.proofs.keep.Statement.{statement}
