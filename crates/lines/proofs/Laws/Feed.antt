@@ -6,11 +6,13 @@
 --     respond-text   the bytes that `respond` writes are the answer
 --     Fed            what is left to answer of the chunk was the call's text and what is left after it
 --     fed            a call that fits is Fed
+--     fed-call       the same, of what meets the contract
+--     finish-within  `finish` ends within its run
 --     finish-text    the bytes that `finish` writes are what the end of the input answers
 --
 -- Assumes nothing.
 use mathlib.Core.Path.{_≡_, sym, _∙_, ap, ap₂, subst}
-use mathlib.Core.Bool.{true, false, cond}
+use mathlib.Core.Bool.{Bool, true, false, cond}
 use mathlib.Core.List.{List, [], _∷_, _++_}
 use Prim.Native.Nat.{ℕ, suc, _+_, _-_, _<_, _≤_}
 use native.Mathlib.Decide.{decLt, ℕ-discrete}
@@ -20,7 +22,7 @@ use lib.ListN.{length, take, drop, length-take, length-drop}
 use lib.Seq.{sets, length-take-le, drop-drop, drop-at}
 use Rattle.frames.specs.Answer.{answerMax, hasRoom, answerOf, respondEnd, respondRun}
 use Rattle.frames.proofs.Laws.Respond.{respond-answered, respond-kept}
-use Rattle.lines.specs.Lines.{cap, outOf, restOf, lastOf, before, endFrom, part, keptRun, keptHeld, answeredRun, fits, bytesFrom, lineFrom, fedProgress, fedCarry, fedOut, finishEnd, finishRun}
+use Rattle.lines.specs.Lines.{cap, outOf, restOf, lastOf, before, endFrom, part, keptRun, keptHeld, answeredRun, fits, bytesFrom, lineFrom, fedProgress, fedCarry, fedOut, isUnfinished, finishEnd, finishRun}
 use Rattle.lines.specs.Promises.{finishText}
 use Rattle.lines.specs.declared.Progress.{Progress}
 use Rattle.lines.proofs.Laws.Ends.{end-after, end-within, before-found}
@@ -174,6 +176,23 @@ module _ (chunk : List ℕ) (at : ℕ) (carry : List ℕ) (held : ℕ) (out : Li
     | no h ↦ as-left (kept-leaves chunk at carry held out made f (omega arith)) (kept-fed (omega arith))
     | yes h ↦ as-left (line-leaves chunk at carry held out made f h) (line-fed h)
   ]
+
+  pub fed-call : {r : Progress} {carry′ out′ : List ℕ} → Leaves chunk at carry held out made r carry′ out′ → Fed chunk at carry held out made r carry′ out′
+  fed-call {r} {carry′} {out′} l =
+      subst (λ (p : Progress). Fed chunk at carry held out made p carry′ out′) (sym (l .0))
+      (subst (λ (c : List ℕ). Fed chunk at carry held out made (fedProgress chunk at carry held out made) c out′) (sym (l .1 .0))
+      (subst (λ (o : List ℕ). Fed chunk at carry held out made (fedProgress chunk at carry held out made) (fedCarry chunk at carry held out made) o) (sym (l .1 .1)) fed))
+
+within-by : (t : Bool) (a b n : ℕ) → a ≤ n → b ≤ n → cond t a b ≤ n
+within-by true a b n h g = h
+within-by false a b n h g = g
+
+pub finish-within : (carry : List ℕ) (held : ℕ) (out : List ℕ) (made : ℕ) → made + answerMax ≤ length out → finishEnd carry held out made ≤ length out
+unfolding finishEnd
+finish-within carry held out made room =
+    within-by (isUnfinished carry held) (respondEnd (take held carry) out made) made (length out)
+    (omega (arith, respond-answered (take held carry) out made room .within, respond-kept (take held carry) out made))
+    (omega arith)
 
 pub finish-text : (carry : List ℕ) (held : ℕ) (out : List ℕ) (made : ℕ) → Lawful carry held → made + answerMax ≤ length out → finishText carry held out made ≡ lastOf (take held carry)
 unfolding finishEnd finishRun lastOf
