@@ -1,5 +1,5 @@
-// The program `interp`: answers each line of standard input on standard output. Crate `frames` says what a line means, and crate `lines`
-// where it ends; here is only reading and writing, a large chunk at a time.
+// The program `interp`: answers each line of standard input on standard output. Crate `frames` says what a line means, and crate
+// `lines` where it ends; here is only reading and writing, a large chunk at a time.
 use libc::STDIN_FILENO;
 use libc::STDOUT_FILENO;
 ghost use Prim.Native.Nat.{_≤_};
@@ -66,8 +66,8 @@ fn turn(chunk: &mut [u8], carry: &mut [u8], held: usize, out: &mut [u8]) -> Next
     pump(&chunk[..n], carry, held, out)
 }
 
-// Feeds a chunk line by line. Answers are written where `out` has no more room for one, and once at the end, so that a line is answered
-// before the program waits for the next.
+// Feeds a chunk line by line. Answers are written where `out` has no more room for one, and once at the end, so that a line is
+// answered before the program waits for the next.
 fn pump(chunk: &[u8], carry: &mut [u8], held: usize, out: &mut [u8]) -> Next
     requires { ⌜ Ready (now carry) held (now out) ⌝ }
     ensures { λ r. ⌜ Small r ⌝ }

@@ -1,8 +1,8 @@
 -- A stream of bytes, its lines, and their answers; and what `feed` and `finish` do to it piece by piece.
 --
 -- What is meant
---     linesFrom p s     the lines of an unfinished line p and the bytes s after it: "A last line without its line end counts if it has
---                       any character", and "Empty input" has none
+--     linesFrom p s     the lines of an unfinished line p and the bytes s after it: "A last line without its line end counts if it
+--                       has any character", and "Empty input" has none
 --     answers lines     their answers, one after the other
 --
 -- A machine that takes byte by byte and keeps no more than `cap` of an unfinished line

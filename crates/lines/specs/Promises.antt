@@ -1,16 +1,28 @@
--- What the theorems of proofs/Theorems speak of: calls of `feed` and `finish`, one after the other, and the bytes that they write.
+-- What the theorems of proofs/Theorems speak of: texts made of lines; and calls of `feed` and `finish`, one after the other, with the
+-- bytes that they write.
 --
---     Calls chunk at carry held text carry′ held′     calls that take a chunk from place `at` on to its end write `text`, and leave an
---                                                     unfinished line in the carry; each may be lent another run, at any place with room
---     Stream carry held chunks text                   calls that take chunk after chunk, and then the end of the input, write `text`
---     joined chunks                                   the bytes of all chunks
+--     withEnds lines                     lines, each with its line end
+--     Plain lines                        no line has a line end in it
+--     joined chunks                      the bytes of all chunks
+--     Calls chunk at carry held text carry′ held′
+--                                        calls that take a chunk from place `at` on to its end write `text`, and leave an unfinished
+--                                        line in the carry; each may be lent another run, at any place with room
+--     Stream carry held chunks text      calls that take chunk after chunk, and then the end of the input, write `text`
 use mathlib.Core.Path.{_≡_}
 use mathlib.Core.Bool.{true}
 use mathlib.Core.List.{List, [], _∷_, _++_}
 use Prim.Native.Nat.{ℕ}
 use lib.ListN.{length}
-use Rattle.frames.specs.Answer.{hasRoom}
-use Rattle.lines.specs.Lines.{part, fits, fedProgress, fedCarry, fedOut, finishEnd, finishRun}
+use Rattle.frames.specs.Answer.{lineEnd, hasRoom}
+use Rattle.lines.specs.Lines.{before, part, fits, fedProgress, fedCarry, fedOut, finishEnd, finishRun}
+
+unfoldable pub withEnds : List (List ℕ) → List ℕ
+withEnds [] = []
+withEnds (line ∷ lines) = line ++ (lineEnd ++ withEnds lines)
+
+abbrev pub Plain : List (List ℕ) → Type 0
+Plain [] = Unit {0}
+Plain (line ∷ lines) = (before line ≡ length line) × Plain lines
 
 unfoldable pub joined : List (List ℕ) → List ℕ
 joined [] = []

@@ -15,9 +15,9 @@ pub struct Progress {
     pub held: usize,
 }
 
-// Takes the bytes of `chunk` from `at` on up to its next line end, or to its end. A whole line is answered: its answer is written into
-// `out` from `made` on. An unfinished line is kept in `carry`, of which `held` places are in use, up to its 1,361 places. Where the
-// lengths or places are not so, or fewer places are left than the longest answer takes, nothing is changed.
+// Takes the bytes of `chunk` from `at` on up to its next line end, or to its end. A whole line is answered: its answer is written
+// into `out` from `made` on. An unfinished line is kept in `carry`, of which `held` places are in use, up to its 1,361 places. Where
+// the lengths or places are not so, or fewer places are left than the longest answer takes, nothing is changed.
 pub fn feed(
     chunk: &[u8],
     at: usize,
@@ -54,8 +54,9 @@ pub fn feed(
     }
 }
 
-// Answers a last line without its line end, if it has any character: writes the answer into `out` from `made` on, and answers the place
-// after it. Where the carry is not as `feed` leaves it, or fewer places are left than the longest answer takes, nothing is changed.
+// Answers a last line without its line end, if it has any character: writes the answer into `out` from `made` on, and answers the
+// place after it. Where the carry is not as `feed` leaves it, or fewer places are left than the longest answer takes, nothing is
+// changed.
 pub fn finish(carry: &[u8], held: usize, out: &mut [u8], made: usize) -> usize
     ensures { λ r. ⌜ r ≡ finishEnd (now (carry .entry)) held (now (out .entry)) made ⌝ }
     ensures { λ r. ⌜ now (out .exit) ≡ finishRun (now (carry .entry)) held (now (out .entry)) made ⌝ }
@@ -110,8 +111,8 @@ fn line_end(chunk: &[u8], at: usize) -> usize
     i
 }
 
-// Answers the line that starts in the carry, if that has any of it, and ends with the bytes from `at` up to `end`. A line that stands
-// whole in the chunk is not copied.
+// Answers the line that starts in the carry, if that has any of it, and ends with the bytes from `at` up to `end`. A line that
+// stands whole in the chunk is not copied.
 fn answer(
     chunk: &[u8],
     at: usize,

@@ -7,11 +7,10 @@ use borrow.Author.Needs.{needs}
 use lib.ListN.{length}
 use lib.Seq.{length-take-le}
 use Rattle.frames.specs.Answer.{answerMax}
-use Rattle.lines.specs.declared.Progress.{Progress}
 use Rattle.lines.proofs.Laws.Fits.{Lawful, fitting-is}
 use Rattle.lines.proofs.Laws.Feed.{Fed, fed-call}
 use Rattle.interp.specs.declared.Place.{Place}
-use Rattle.interp.specs.Code.{Ready, Roomy, Small}
+use Rattle.interp.specs.Code.{Roomy}
 use Rattle.interp.proofs.pump.Statement.{statement}
 use Rattle.interp.proofs.pump.Tie as tie
 

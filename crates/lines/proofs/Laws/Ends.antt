@@ -17,11 +17,11 @@ use lib.ListN.{length, getD, drop, length-drop}
 use lib.Seq.{drop-cons, drop-length}
 use Rattle.lines.specs.Lines.{isEnd, before, endFrom}
 
-pub before-end : (b : ℕ) (s : List ℕ) → b ≡ 10 → before (b ∷ s) ≡ 0
+before-end : (b : ℕ) (s : List ℕ) → b ≡ 10 → before (b ∷ s) ≡ 0
 unfolding before
 before-end b s e = ap (λ (t : Bool). cond t zero (suc (before s))) (eq-eqb b 10 e)
 
-pub before-other : (b : ℕ) (s : List ℕ) → (b ≡ 10 → ⊥) → before (b ∷ s) ≡ suc (before s)
+before-other : (b : ℕ) (s : List ℕ) → (b ≡ 10 → ⊥) → before (b ∷ s) ≡ suc (before s)
 unfolding before
 before-other b s h = ap (λ (t : Bool). cond t zero (suc (before s))) (ne-eqb b 10 h)
 
@@ -51,7 +51,7 @@ within-by : (t : Bool) (k n : ℕ) → k ≤ n → cond t zero (suc k) ≤ suc n
 within-by true k n h = omega arith
 within-by false k n h = omega arith
 
-pub before-within : (s : List ℕ) → before s ≤ length s
+before-within : (s : List ℕ) → before s ≤ length s
 unfolding before
 before-within [] = omega arith
 before-within (b ∷ s) = within-by (isEnd b) (before s) (length s) (before-within s)

@@ -82,7 +82,7 @@ module _ (line out : List ℕ) (made : ℕ) where
     ap (λ (t : List ℕ). cond (hasRoom out made) (sets out made t) out) (answer-of-cap line),
   )
 
-  pub respond-text : made + answerMax ≤ length out → part (respondRun line out made) made (respondEnd line out made) ≡ answerOf line
+  respond-text : made + answerMax ≤ length out → part (respondRun line out made) made (respondEnd line out made) ≡ answerOf line
   respond-text room =
       part-slice (respondRun line out made) made (respondEnd line out made)
       ∙ ap (drop made) (respond-answered line out made room .text)

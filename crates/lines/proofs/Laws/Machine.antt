@@ -68,7 +68,7 @@ module _ (F : List ℕ → List ℕ → List ℕ) (other : (p s : List ℕ) (b :
   stretch-by true p s b e h f = ap (λ (q : List ℕ). F q (b ∷ s)) (short p h)
   stretch-by false p s b e h f = other p s b e ∙ f ∙ ap (λ (q : List ℕ). F q (drop (before s) s)) (push-again p (take (before s) s) b)
 
-  pub stretch : (p s : List ℕ) → length p ≤ cap → F p s ≡ F (take cap (p ++ take (before s) s)) (drop (before s) s)
+  stretch : (p s : List ℕ) → length p ≤ cap → F p s ≡ F (take cap (p ++ take (before s) s)) (drop (before s) s)
   unfolding before
   stretch p [] h = ap (λ (q : List ℕ). F q []) (short p h)
   stretch p (b ∷ s) h = stretch-by (isEnd b) p s b refl h (stretch (push p b) s (push-length p b))

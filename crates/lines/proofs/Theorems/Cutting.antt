@@ -3,6 +3,7 @@
 --
 --     any-cutting    a stream from an empty carry on writes the answers to the lines of its chunks, joined
 --     same-input     two streams over the same joined input write the same
+--     empty-input    "Empty input writes nothing."
 --     calls-end      any chunk can be taken to its end, by calls that are lent any run with room
 --     stream-ends    and so can any chunks, to the end of the input
 --
@@ -16,7 +17,7 @@ use borrow.Author.Tests.{leb-true, le-leb}
 use lib.ListN.{length, take, drop}
 use lib.Seq.{drop-length}
 use Rattle.frames.specs.Answer.{answerMax}
-use Rattle.lines.specs.Lines.{linesFrom, answers, cap, outOf, restOf, lastOf, fedProgress, fedCarry}
+use Rattle.lines.specs.Lines.{lastLine, linesFrom, answers, cap, outOf, restOf, lastOf, fedProgress, fedCarry}
 use Rattle.lines.specs.Promises.{joined, fedText, finishText, Calls, over, call, Stream, ended, more}
 use Rattle.lines.proofs.Laws.Fits.{Lawful, fitting-is}
 use Rattle.lines.proofs.Laws.Machine.{rest-append, out-append, meant}
@@ -62,6 +63,10 @@ any-cutting {carry} {text} {chunks} long stream = written (record { long = long;
 pub same-input : {carry carry′ text text′ : List ℕ} {chunks chunks′ : List (List ℕ)} → length carry ≡ cap → length carry′ ≡ cap → joined chunks ≡ joined chunks′ →
     Stream carry 0 chunks text → Stream carry′ 0 chunks′ text′ → text ≡ text′
 same-input long long′ e stream stream′ = any-cutting long stream ∙ ap (λ (s : List ℕ). answers (linesFrom [] s)) e ∙ sym (any-cutting long′ stream′)
+
+pub empty-input : {carry text : List ℕ} {chunks : List (List ℕ)} → length carry ≡ cap → joined chunks ≡ [] → Stream carry 0 chunks text → text ≡ []
+unfolding answers linesFrom lastLine
+empty-input long e stream = any-cutting long stream ∙ ap (λ (s : List ℕ). answers (linesFrom [] s)) e
 
 -- That there are such streams: a call moves on --------------------------------------------------------------------------
 

@@ -1,4 +1,5 @@
--- `lines::answer` meets its contract: a line in the chunk is answered where it stands, and what is kept of one as the line is. Assumes nothing.
+-- `lines::answer` meets its contract: a line in the chunk is answered where it stands, and what is kept of one as the line is.
+-- Assumes nothing.
 use mathlib.Core.Path.{sym, _∙_, ap, ap₂}
 use mathlib.Core.List.{List, _++_}
 use Prim.Native.Nat.{ℕ, _≤_}
