@@ -1,15 +1,10 @@
+-- `explain::feed` meets its contract: its place only grows, and each turn adds 1. Assumes nothing.
 use borrow.Author.Needs.{needs}
-use mathlib.Core.Path.{_≡_, refl, sym, _∙_}
-use Prim.Native.Nat.{ℕ, _+_, _*_, _-_, _≤_, _<_}
-use native.Mathlib.Omega.{arith}
-use lib.ListN.{length, take}
+use mathlib.Core.Path.{_≡_}
+use Prim.Native.Nat.{_-_, _≤_}
+use lib.ListN.{length}
 use Rattle.explain.proofs.feed.Statement.{statement}
 use Rattle.explain.proofs.feed.Tie as tie
-use Rattle.explain.proofs.feed.Reads as reads
-use Rattle.explain.proofs.feed.Lts as lts
-use Rattle.explain.proofs.explain.Reads as explain-reads
-use Rattle.explain.proofs.is_full.Reads as is-full-reads
-use Rattle.explain.proofs.put_byte.Reads as put-byte-reads
 
 abbrev Inv-loop : tie.InvT-loop
 Inv-loop chunk from line₀ held out₀ i₀ h₀ o₀ line out i h o = (from ≤ i) × ((length line ≡ length line₀) × (length out ≡ length out₀))
@@ -17,67 +12,51 @@ Inv-loop chunk from line₀ held out₀ i₀ h₀ o₀ line out i h o = (from �
 abbrev μ-loop : tie.MeasureT-loop
 μ-loop chunk from line₀ held out₀ i₀ h₀ o₀ line out i h o = length chunk - i
 
--- src/main.rt:550:5
 loop-holds : tie.Need-loop-holds Inv-loop μ-loop
 loop-holds c = search needs
 
--- src/main.rt:551:17
 shared-slice-read-c : tie.Need-shared-slice-read-c Inv-loop μ-loop
 shared-slice-read-c c = search needs
 
--- src/main.rt:552:9
 add-i : tie.Need-add-i Inv-loop μ-loop
 add-i c = search needs
 
--- src/main.rt:554:13
 explain-requires : tie.Need-explain-requires Inv-loop μ-loop
 explain-requires c κs = search needs
 
--- src/main.rt:556:16
 is-full-requires : tie.Need-is-full-requires Inv-loop μ-loop
 is-full-requires c κs = search needs
 
--- src/main.rt:557:17
 same-length : tie.Need-same-length Inv-loop μ-loop
 same-length c = search needs
 
--- src/main.rt:557:17
 same-length-2 : tie.Need-same-length-2 Inv-loop μ-loop
 same-length-2 c = search needs
 
--- src/main.rt:557:17
 returns : tie.Need-returns Inv-loop μ-loop
 returns c = search needs
 
--- src/main.rt:550:5
 loop-less : tie.Need-loop-less Inv-loop μ-loop
 loop-less c = search needs
 
--- src/main.rt:550:5
 loop-again : tie.Need-loop-again Inv-loop μ-loop
 loop-again c = search needs
 
--- src/main.rt:560:13
 put-byte-requires : tie.Need-put-byte-requires Inv-loop μ-loop
 put-byte-requires c κs = search needs
 
--- src/main.rt:550:5
 loop-less-2 : tie.Need-loop-less-2 Inv-loop μ-loop
 loop-less-2 c = search needs
 
--- src/main.rt:550:5
 loop-again-2 : tie.Need-loop-again-2 Inv-loop μ-loop
 loop-again-2 c = search needs
 
--- src/main.rt:544:1
 same-length-3 : tie.Need-same-length-3 Inv-loop μ-loop
 same-length-3 c = search needs
 
--- src/main.rt:544:1
 same-length-4 : tie.Need-same-length-4 Inv-loop μ-loop
 same-length-4 c = search needs
 
--- src/main.rt:544:1
 returns-2 : tie.Need-returns-2 Inv-loop μ-loop
 returns-2 c = search needs
 

@@ -1,13 +1,9 @@
+-- `explain::pushed` meets its contract, which says that it is safe and ends: a value without its first digit leaves room for
+-- one more. Assumes nothing.
 use borrow.Author.Needs.{needs}
-use mathlib.Core.Path.{_≡_, refl, sym, _∙_}
-use Prim.Native.Nat.{ℕ, _+_, _*_, _-_, _≤_, _<_}
-use native.Mathlib.Omega.{arith}
-use lib.ListN.{length, take}
+use Prim.Native.Nat.{_-_, _≤_}
 use Rattle.explain.proofs.pushed.Statement.{statement}
 use Rattle.explain.proofs.pushed.Tie as tie
-use Rattle.explain.proofs.pushed.Reads as reads
-use Rattle.explain.proofs.pushed.Lts as lts
-use Rattle.explain.proofs.digit_at.Reads as digit-at-reads
 
 abbrev Inv-loop : tie.InvT-loop
 Inv-loop bits line at digits value₀ k₀ value k = k ≤ digits
@@ -15,39 +11,30 @@ Inv-loop bits line at digits value₀ k₀ value k = k ≤ digits
 abbrev μ-loop : tie.MeasureT-loop
 μ-loop bits line at digits value₀ k₀ value k = digits - k
 
--- src/main.rt:106:5
 loop-holds : tie.Need-loop-holds Inv-loop μ-loop
 loop-holds c = search needs
 
--- src/main.rt:107:17
 mul-value : tie.Need-mul-value Inv-loop μ-loop
 mul-value c = search needs
 
--- src/main.rt:107:67
 add-digit-at : tie.Need-add-digit-at Inv-loop μ-loop
 add-digit-at c = search needs
 
--- src/main.rt:107:52
 digit-at-requires : tie.Need-digit-at-requires Inv-loop μ-loop
 digit-at-requires c κs = search needs
 
--- src/main.rt:107:17
 add-value : tie.Need-add-value Inv-loop μ-loop
 add-value c = search needs
 
--- src/main.rt:108:9
 add-k : tie.Need-add-k Inv-loop μ-loop
 add-k c = search needs
 
--- src/main.rt:106:5
 loop-less : tie.Need-loop-less Inv-loop μ-loop
 loop-less c = search needs
 
--- src/main.rt:106:5
 loop-again : tie.Need-loop-again Inv-loop μ-loop
 loop-again c = search needs
 
--- src/main.rt:101:1
 returns : tie.Need-returns Inv-loop μ-loop
 returns c = search needs
 
