@@ -1,8 +1,11 @@
 // Writes each line of standard input, a frame 01 to 06, as one line of text that a person can check by hand.
 //
-// A line is kept while it comes, up to 1,361 characters, of which the last says only that it is too long. What is read of it is read
-// in place. What is written goes into a buffer: a function `put_..` writes from place `at` of `out` on, where there is room, and
-// answers the place after what it wrote.
+// A line is kept while it comes, up to 1,361 characters, of which the last says only that it is too long. Its numbers are read in
+// place. What is written goes into a buffer: a function `put_..` writes from place `at` of `out` on, where there is room, and answers
+// the place after what it wrote.
+//
+// Each function takes any characters. The bounds that some require of counts and places hold for counts of any byte, below 256, and
+// only keep sums from overflow; that a count is 1 to 12 is tested where a frame is read.
 use libc::STDIN_FILENO;
 use libc::STDOUT_FILENO;
 ghost use Prim.Native.Nat.{_*_, _≤_, _<_};
@@ -97,7 +100,7 @@ fn byte_at(line: &[u8], at: usize) -> usize
     (high * 16 + low) as usize
 }
 
-// The 64 bits that some digits leave when each is pushed in from the right.
+// The 64 bits that are left when some digits are pushed in from the right, each in place of the first one, of weight 2^60.
 fn pushed(bits: u64, line: &[u8], at: usize, digits: usize) -> u64
     requires { ⌜ (at ≤ 3000000) × (digits ≤ 16) ⌝ }
 {
@@ -124,7 +127,7 @@ fn signed_at(line: &[u8], at: usize, digits: usize) -> u64
     if digit_at(line, at) < 8 {
         return pushed(0, line, at, digits);
     }
-    pushed(18446744073709551615, line, at, digits)
+    pushed(u64::MAX, line, at, digits)
 }
 
 // ---- Signed numbers, as their 64 bits
@@ -136,7 +139,7 @@ fn is_negative(bits: u64) -> bool {
 // For the least number it is 2^63.
 fn magnitude(bits: u64) -> u64 {
     if 9223372036854775807 < bits {
-        return 18446744073709551615 - bits + 1;
+        return u64::MAX - bits + 1;
     }
     bits
 }
@@ -193,6 +196,7 @@ fn put_term(is_first: bool, bits: u64, index: usize, out: &mut [u8], at: usize) 
     put_variable(index, out, factor)
 }
 
+// A term is the first if nothing is written before it.
 fn put_terms(line: &[u8], from: usize, digits: usize, n: usize, out: &mut [u8], at: usize) -> usize
     requires { ⌜ (from ≤ 2000000) × ((digits ≤ 16) × (n < 256)) ⌝ }
 {
@@ -248,7 +252,7 @@ fn put_row(line: &[u8], from: usize, digits: usize, n: usize, out: &mut [u8], at
     put_right(constant, modulus, out, left)
 }
 
-// ---- Frames. A line that is no frame of its kind is said to be none
+// ---- Frames; a line that is no frame of its kind is said to be none
 
 // Whether a count of variables or of rows is 1 to 12.
 fn is_count(count: usize) -> bool {
@@ -258,7 +262,7 @@ fn is_count(count: usize) -> bool {
     count < 13
 }
 
-// Whether a line is as long as its counts say: `head` characters, and some parts of `size` characters each, 1 to 12.
+// Whether a line is as long as its counts say: `head` characters, then 1 to 12 parts of `size` characters each.
 fn has_parts(line: &[u8], head: usize, count: usize, size: usize) -> bool
     requires { ⌜ (head ≤ 36) × ((count ≤ 510) × (size ≤ 2056)) ⌝ }
 {
@@ -480,12 +484,12 @@ fn put_frame(line: &[u8], out: &mut [u8], at: usize) -> usize {
     }
 }
 
-// A number of a buffer's characters: at most as many as it has.
-fn within(held: usize, buffer: &[u8]) -> usize
+// A count of a buffer's characters: at most as many as it has.
+fn within(count: usize, buffer: &[u8]) -> usize
     ensures { λ r. ⌜ Counts r (now (buffer .entry)) ⌝ }
 {
-    if held < buffer.len() {
-        held
+    if count < buffer.len() {
+        count
     } else {
         buffer.len()
     }
@@ -498,8 +502,8 @@ fn explain(line: &[u8], held: usize, out: &mut [u8], at: usize) -> usize {
     put_byte(10, out, end)
 }
 
-// Whether the room left is less than an explanation may take. The longest has 12 rows of 12 terms such as ` - 2147483648*x12`, 17
-// characters; a row's end, ` = -2147483648 (mod -2147483648), `, has 34. With 30 more for the rest that is below 2,900 in all.
+// Whether less room is left than any explanation needs. The longest has 12 rows, each of 12 terms such as ` - 2147483648*x12`, 17
+// characters, and an end such as ` = -2147483648 (mod -2147483648), `, 34 characters. With 30 for the rest that is below 2,900.
 fn is_full(out: &[u8], at: usize) -> bool {
     if out.len() < at {
         return true;
@@ -548,7 +552,7 @@ fn feed(chunk: &[u8], from: usize, line: &mut [u8], held: usize, out: &mut [u8])
     }
 }
 
-// Writes the first characters of the buffer.
+// Writes what stands in the buffer, and answers whether that went well.
 fn flush(out: &[u8], made: usize) -> bool {
     let n = within(made, out);
     io::write_all(STDOUT_FILENO, &out[..n])
