@@ -1,5 +1,7 @@
 -- What the theorems of proofs/Theorems say of the definitions above.
 --
+--     Frame l           l is no line that refusal 9 is given to; Counts l    nor, as a frame, refusal 1
+--     LineRefuses l k   the case of the refusal k of a line before any search, 0 for none
 --     IsLine k text     text is digits, an even number of them, and then one line end; its first byte is k. A line end is no digit,
 --                       so that there is no other
 --     IsAnswer text     "02 and then 05, or one of 03, 04, 06"
@@ -9,8 +11,8 @@
 use mathlib.Core.Path.{_≡_}
 use mathlib.Core.Bool.{true}
 use mathlib.Core.List.{List, _++_}
-use Prim.Native.Nat.{ℕ, _+_, _%_, _<_}
-use lib.ListN.{length}
+use Prim.Native.Nat.{ℕ, _+_, _*_, _%_, _<_, _≤_}
+use lib.ListN.{length, getD}
 use lib.IntN.{ℤ}
 use mir.Syntax.{w32}
 use mir.Val.{SFits}
@@ -18,9 +20,28 @@ use Rattle.integers.specs.Run.{at}
 use Rattle.checker.specs.Refutation.{refusal}
 use Rattle.checker.specs.Answer.{interpolantAnswer, interpolantRun}
 use Rattle.checker.specs.declared.Answer.the-variants.{Fact}
-use Rattle.frames.specs.Hex.{valueAt}
-use Rattle.frames.specs.Problem.{areDigits, lineRefusal, nOf, maOf, mbOf, budgetOf, sideA, sideB}
+use Rattle.frames.specs.Hex.{isDigit, valueAt}
+use Rattle.frames.specs.Problem.{areDigits, lineRefusal, nOf, maOf, mbOf, budgetOf, sideLong, sideA, sideB}
 use Rattle.frames.specs.Answer.{lineEnd, refutationFrame, interpolantFrame, zeros}
+
+pub record Frame (l : List ℕ) : Type 0 where
+  pub short : length l ≤ 1360
+  pub long : 16 ≤ length l
+  pub even : length l % 2 ≡ 0
+  pub digits : (i : ℕ) → i < length l → isDigit (getD l i 0) ≡ true
+  pub first : valueAt l 0 2 ≡ 1
+
+pub record Counts (l : List ℕ) : Type 0 where
+  pub some-n : 1 ≤ nOf l
+  pub few-n : nOf l ≤ 12
+  pub some-m : 1 ≤ maOf l + mbOf l
+  pub few-m : maOf l + mbOf l ≤ 12
+  pub long : length l ≡ 16 + sideLong (nOf l) (maOf l + mbOf l) * 8
+
+pub data LineRefuses (l : List ℕ) : ℕ → Type 0 where
+  no-frame : (Frame l → ⊥) → LineRefuses l 9
+  wrong-counts : Frame l → (Counts l → ⊥) → LineRefuses l 1
+  none : Frame l → Counts l → LineRefuses l 0
 
 pub record IsLine (kind : ℕ) (text : List ℕ) : Type 0 where
   pub body : List ℕ
