@@ -23,9 +23,9 @@ static int interpolate(size_t k)
     vayalittu_answer answer = search(k);
     steps += answer.steps;
     denominators[k] = answer.q;
-    if (answer.outcome == 2)
+    if (answer.outcome == VAYALITTU_SOLVED)
         return SOLVED;
-    if (answer.outcome != 1)
+    if (answer.outcome != VAYALITTU_REFUTED)
         return UNDECIDED;
     return vayalittu_interpolant(p->n, p->ma, p->mb, p->a, p->ma * width, p->b, p->mb * width, answer.q, vectors[k], p->ma + p->mb,
                                  coeffs, p->n)

@@ -17,11 +17,11 @@ int main(void)
     vayalittu_fact fact;
 
     answer = vayalittu_search(3, 1, 1, a, 5, b, 5, 8076, vector, 2, point, 3);
-    if (answer.outcome == 2) {
+    if (answer.outcome == VAYALITTU_SOLVED) {
         printf("solved: x = %" PRId64 ", y = %" PRId64 ", z = %" PRId64 "\n", point[0], point[1], point[2]);
         return 0;
     }
-    if (answer.outcome != 1) {
+    if (answer.outcome != VAYALITTU_REFUTED) {
         printf("no answer: refusal %" PRIu32 " after %" PRIu32 " steps\n", answer.refusal, answer.steps);
         return 1;
     }

@@ -9,7 +9,7 @@
  * What C must keep, since nothing can test it: a pointer is valid for as many elements as its length says, and a run that is
  * written overlaps no other run of the call.
  *
- * Refusals, in the order in which they are tested; a refusal leaves every run as it was:
+ * Refusals, in the order in which they are tested, but that 9 comes first for a text line; a refusal leaves every run as it was:
  *   1  n, ma, mb, their sum or a side's length is not as above
  *   2  a result run is not exactly its length (vector ma + mb, point n, coefficients n, table 864)
  *   3  a number of a row is out of its range
@@ -36,9 +36,12 @@ extern "C" {
 /* The longest answer to a text line, in bytes. */
 #define VAYALITTU_ANSWER_MAX 346
 
+/* The outcomes of a search. */
+enum { VAYALITTU_REFUTED = 1, VAYALITTU_SOLVED = 2, VAYALITTU_TOO_LARGE = 3, VAYALITTU_UNFINISHED = 4 };
+
 /* What a search answers.
  *   refusal   0, or the number of the refusal (8 together with outcome 3)
- *   outcome   1 refuted, 2 solved, 3 too large, 4 unfinished; 0 when refused for another reason than 8
+ *   outcome   one of the above; 0 when refused for another reason than 8
  *   steps     the steps that were taken; 0 when refused for another reason than 8
  *   q         the vector's denominator; 0 unless refuted */
 typedef struct {
@@ -62,7 +65,9 @@ uint32_t vayalittu_check(size_t n, size_t ma, size_t mb, const int64_t *a, size_
 
 /* The interpolant of such a vector, in normal form: coefficients are written, constant and modulus are answered. The fact is
  * coefficients * x = constant, modulo the modulus unless that is 0. Every integer point of A meets it, none of B does, and only
- * variables that occur in both sides have a coefficient other than 0. Refusals 1 to 7; `coeffs` is then as it was. */
+ * variables that occur in both sides have a coefficient other than 0. TRUE is all zeros; FALSE is all zeros with constant 1; both have
+ * modulus 0. Otherwise the modulus is 0 and the first nonzero coefficient is positive, or it is 2 or more and all numbers lie in
+ * 0..modulus - 1. Refusals 1 to 7; `coeffs` is then as it was. */
 vayalittu_fact vayalittu_interpolant(size_t n, size_t ma, size_t mb, const int64_t *a, size_t a_len, const int64_t *b,
                                      size_t b_len, int64_t q, const int64_t *p, size_t p_len, int64_t *coeffs,
                                      size_t coeffs_len);
@@ -75,7 +80,8 @@ vayalittu_answer vayalittu_search(size_t n, size_t ma, size_t mb, const int64_t 
                                   size_t point_len);
 
 /* Copies the search's table after a budget of steps, or after the last, if there are fewer, into `cells`. 0, or refusal 1, 2 or
- * 3, which write nothing. */
+ * 3, which write nothing. A search that ends as too large gives the table before that step; one that refutes or solves gives it with
+ * its last swap and negation. */
 uint32_t vayalittu_table(size_t n, size_t ma, size_t mb, const int64_t *a, size_t a_len, const int64_t *b, size_t b_len,
                          uint32_t budget, int64_t *cells, size_t cells_len);
 

@@ -2,6 +2,7 @@
 
     python3 tests/judge.py calls [SEED [COUNT]]      the library's calls, on any numbers and lengths; 2,000 problems
     python3 tests/judge.py lines [SEED [COUNT]]      text lines, whole and damaged, through `interp` and the library; 20,000 lines
+    python3 tests/judge.py stored IN OUT             stored lines and their stored answers, without any program
 
 It needs what `rt check interp` and `rt staticlib vayalittu` build, and a C compiler to make a shared library of the static one;
 Python calls that. It ends with a nonzero status at the first disagreement, and shows the call or the line.
@@ -404,6 +405,18 @@ def judge_lines(library, seed, count):
     return f'{count} lines of seed {seed} agree'
 
 
+def judge_stored(in_path, out_path):
+    with open(out_path, 'rb') as file:
+        found = file.read()
+    lines = search_reference.read_lines(in_path)
+    for line in lines:
+        answer = expected_answer(None, line, None, None)
+        agree(found[:len(answer)], answer, 'stored', line)
+        found = found[len(answer):]
+    agree(found, b'', 'more is stored than the answers')
+    return f'{len(lines)} stored lines agree'
+
+
 def judge_calls(library, seed, count):
     outcomes = {}
     for k in range(count):
@@ -417,15 +430,18 @@ MODES = {'calls': (judge_calls, 2000), 'lines': (judge_lines, 20000)}
 
 
 def main():
-    if len(sys.argv) < 2 or sys.argv[1] not in MODES:
-        sys.exit(__doc__)
-    judge, count = MODES[sys.argv[1]]
-    seed = int(sys.argv[2]) if len(sys.argv) > 2 else 1
-    count = int(sys.argv[3]) if len(sys.argv) > 3 else count
+    mode, words = (sys.argv + [''])[1], sys.argv[2:]
     try:
-        print(judge(Library(), seed, count))
+        if mode == 'stored' and len(words) == 2:
+            print(judge_stored(*words))
+        elif mode in MODES and len(words) <= 2:
+            judge, count = MODES[mode]
+            seed, count = [int(word) for word in words] + [1, count][len(words):]
+            print(judge(Library(), seed, count))
+        else:
+            sys.exit(__doc__)
     except Disagreement as disagreement:
-        sys.exit(f'disagreement, seed {seed}: {disagreement}')
+        sys.exit(f'disagreement: {disagreement}')
 
 
 if __name__ == '__main__':

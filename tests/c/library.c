@@ -150,13 +150,13 @@ static void the_papers_searches(void)
     problem large = {2, 2, 0, edge(large_a, sizeof large_a), 8, NULL, 0};
     problem solved = {1, 1, 0, edge(solved_a, sizeof solved_a), 3, NULL, 0};
 
-    searched(&parity, 0, (vayalittu_answer){0, 4, 0, 0}, NULL, NULL);
-    searched(&parity, 3, (vayalittu_answer){0, 4, 3, 0}, NULL, NULL);
-    searched(&parity, 4, (vayalittu_answer){0, 1, 4, 2}, (int64_t[]){-1, 1}, NULL);
-    searched(&parity, UINT32_MAX, (vayalittu_answer){0, 1, 4, 2}, (int64_t[]){-1, 1}, NULL);
-    searched(&large, 1, (vayalittu_answer){0, 4, 1, 0}, NULL, NULL);
-    searched(&large, 2, (vayalittu_answer){8, 3, 2, 0}, NULL, NULL);
-    searched(&solved, 1, (vayalittu_answer){0, 2, 1, 0}, NULL, (int64_t[]){3});
+    searched(&parity, 0, (vayalittu_answer){0, VAYALITTU_UNFINISHED, 0, 0}, NULL, NULL);
+    searched(&parity, 3, (vayalittu_answer){0, VAYALITTU_UNFINISHED, 3, 0}, NULL, NULL);
+    searched(&parity, 4, (vayalittu_answer){0, VAYALITTU_REFUTED, 4, 2}, (int64_t[]){-1, 1}, NULL);
+    searched(&parity, UINT32_MAX, (vayalittu_answer){0, VAYALITTU_REFUTED, 4, 2}, (int64_t[]){-1, 1}, NULL);
+    searched(&large, 1, (vayalittu_answer){0, VAYALITTU_UNFINISHED, 1, 0}, NULL, NULL);
+    searched(&large, 2, (vayalittu_answer){8, VAYALITTU_TOO_LARGE, 2, 0}, NULL, NULL);
+    searched(&solved, 1, (vayalittu_answer){0, VAYALITTU_SOLVED, 1, 0}, NULL, (int64_t[]){3});
 }
 
 /* Before the first step: the rows, and 1 on the diagonal from table row 13 on for the columns in use. */
