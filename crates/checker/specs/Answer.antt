@@ -4,6 +4,7 @@
 --     interpolantRefusal     the refusal of `interpolant`: that of `check`, with 2 after 1 if the run is not n long
 --     answerOf k f           the fact's constant and modulus for 0, else Refused k
 --     runOf k n f before     the fact's n coefficients for 0, else the run as it was
+--     verdictNumber, answerNumber     the paper's number of an answer, 0 if it is no refusal
 --     interpolantAnswer      what `interpolant` answers              interpolantRun    what its run then holds
 use mathlib.Core.List.{List}
 use Prim.Native.Nat.{ℕ, zero, suc}
@@ -24,6 +25,14 @@ use Rattle.checker.specs.declared.Answer.the-variants.{Fact as Stated, R
 abbrev pub verdictOf : ℕ → Verdict
 verdictOf zero = Accepted
 verdictOf (suc k) = Refused (suc k)
+
+abbrev pub verdictNumber : Verdict → ℕ
+verdictNumber Accepted = 0
+verdictNumber (Refused k) = k
+
+abbrev pub answerNumber : Answer → ℕ
+answerNumber (Stated constant modulus) = 0
+answerNumber (Unstated k) = k
 
 unfoldable pub interpolantRefusal : ℕ → ℕ → ℕ → List ℤ → List ℤ → ℤ → List ℤ → ℕ → ℕ
 interpolantRefusal n ma mb a b q p long = unless (shape n ma mb a b) 1 (unless (eqb long n) 2 (refusal n ma mb a b q p))

@@ -2,6 +2,7 @@
 -- one test.
 --
 --     trueFact, falseFact    "TRUE is all zeros; FALSE is all zeros with constant 1; both have modulus 0."
+--     divided, firstNonzero, residue     "divide all by g", the first nonzero coefficient, a residue in 0..modulus − 1
 --     normalForm n f         the normal form of a fact over n variables
 --     interpolantOf          that of the raw fact of a vector
 use mathlib.Core.Bool.{Bool, true, false, cond}

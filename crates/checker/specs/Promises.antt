@@ -1,4 +1,4 @@
--- What the theorems of proofs/Theorems say of the definitions above.
+-- What the theorems of proofs/Theorems say of the definitions of this folder.
 --
 --     Accepted              the problem is well formed, the vector is in range, and it refutes all rows
 --     Says k                the case of `check`'s refusal k; that of 0 is Accepted
@@ -7,22 +7,27 @@
 --     Same n f g            f and g hold at the same points
 --     IsNormal n f          f is TRUE, or FALSE, or an equality without common factor and with its first nonzero coefficient
 --                           positive, or a congruence modulo 2 or more without common factor, all else in 0..modulus − 1
+--     Demand                demand 2 of one call of `interpolant` whose vector is accepted
 --     Completes             integers at the A-local variables, and one for each row, that make A's weighted row true
 use mathlib.Core.Path.{_≡_}
 use mathlib.Core.List.{List}
-use mathlib.Core.Bool.{false}
+use mathlib.Core.Bool.{true, false}
 use Prim.Native.Nat.{ℕ, _+_, _<_}
 use lib.IntN.{ℤ, pos, _+ℤ_, _*ℤ_}
 use lib.Signed.{_≤ℤ_, _<ℤ_}
 use Rattle.integers.specs.Divisibility.{_∣ℤ_}
 use Rattle.integers.specs.Gcd.{gcdFrom}
 use Rattle.integers.specs.Sum.{dot}
-use Rattle.problem.specs.Rows.{Rows, rowsOf}
+use Rattle.integers.specs.Run.{tabulate}
+use Rattle.problem.specs.Rows.{Rows, sideOf, rowsOf}
+use Rattle.problem.specs.Points.{Meets}
 use Rattle.problem.specs.WellFormed.{Shape, WellFormed}
-use Rattle.problem.specs.Occurrence.{localA}
+use Rattle.problem.specs.Occurrence.{shared, localA}
 use Rattle.checker.specs.Refutation.{columnSum, constantSum, Refutes, numerator, Vector, Numerators}
 use Rattle.checker.specs.Fact.{Fact, Holds}
 use Rattle.checker.specs.NormalForm.{firstNonzero}
+use Rattle.checker.specs.Answer.{interpolantFor, interpolantAnswer, interpolantRun}
+use Rattle.checker.specs.declared.Answer.the-variants.{Fact as Stated}
 
 pub record DividesSums (n : ℕ) (R : Rows) (q : ℤ) (p : ℕ → ℤ) : Type 0 where
   pub columns : (j : ℕ) → j < n → q ∣ℤ columnSum R p j
@@ -70,3 +75,31 @@ pub record Completes (n : ℕ) (A B : Rows) (p X : ℕ → ℤ) : Type 0 where
   pub v : ℕ → ℤ
   pub keeps : (j : ℕ) → j < n → localA A B j ≡ false → y j ≡ X j
   pub row : dot n (columnSum A p) y +ℤ dot (A .m) (λ i. p i *ℤ A .modulus i) v ≡ constantSum A p
+
+-- `entry` is the lent run as the call finds it
+module _ (n ma mb : ℕ) (a b : List ℤ) (q : ℤ) (p entry : List ℤ) where
+  abbrev A : Rows
+  A = sideOf n ma a
+
+  abbrev B : Rows
+  B = sideOf n mb b
+
+  abbrev fact : Fact
+  fact = interpolantFor n ma mb a b p
+
+  pub record Demand : Type 0 where
+    -- the vector is a refutation within the ranges, so no point meets both sides
+    pub accepted : Accepted n ma mb a b q p
+    pub no-point : (X : ℕ → ℤ) → Meets n A X → Meets n B X → ⊥
+    -- the call answers the interpolant's constant and modulus, and its run then holds the coefficients
+    pub answered : interpolantAnswer n ma mb a b q p entry ≡ Stated (fact .const) (fact .modulus)
+    pub written : interpolantRun n ma mb a b q p entry ≡ tabulate n (fact .coef)
+    -- in normal form
+    pub normal : IsNormal n fact
+    -- every integer point of A meets it, none of B does
+    pub implied : (X : ℕ → ℤ) → Meets n A X → Holds n fact X
+    pub excluded : (X : ℕ → ℤ) → Meets n B X → Holds n fact X → ⊥
+    -- only variables that occur in both carry a coefficient
+    pub only-shared : (j : ℕ) → (fact .coef j ≡ pos 0 → ⊥) → shared A B j ≡ true
+    -- and it loses nothing of A's weighted row: the largest modulus
+    pub projected : (X : ℕ → ℤ) → (Completes n A B (numerator p) X → Holds n fact X) × (Holds n fact X → Completes n A B (numerator p) X)

@@ -5,6 +5,8 @@
 --                          not divide the sum of p × d"; for an equation, l = 0, the second part says that q divides 0
 --     Vector, Numerators   "A vector is a denominator q (1..1,000,000) and m numerators p, .. each in −1,000,000..1,000,000."
 --     numerator p i        numerator i of a lent vector
+--     isVector, areNumerators, dividesSums     the tests behind refusals 4, 5 and 6
+--     unless t k rest      k unless the test t holds, else the rest: refusals in their order
 --     refusal              0 if the vector is accepted, else the first of 1, 3, 4, 5, 6, 7 whose case it is
 use mathlib.Core.Path.{_≡_}
 use mathlib.Core.List.{List}

@@ -420,6 +420,7 @@ enum Change {
     Residue(i64),
 }
 
+// Changes each number of a run.
 fn change_all(coeffs: &mut [i64], change: Change)
     requires { ⌜ Allowed change × ((j : ℕ) → natAbs (at (now coeffs) j) ≤ largest) ⌝ }
     ensures { λ r. ⌜ now (coeffs .exit) ≡ tabulate (length (now (coeffs .entry))) (λ j. changed change (at (now (coeffs .entry)) j)) ⌝ }

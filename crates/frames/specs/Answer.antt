@@ -4,7 +4,9 @@
 --     problemAnswer    the answer to a problem: what the search replies, and with a refutation what the checker makes of it; vector,
 --                      point and coeffs are the runs that are lent to them, before the call
 --     answerOf l       the answer to a line: "Per line it writes 02 and then 05, or one of 03, 04, 06"
+--     problemLines     the answer to a line that is a problem, with runs of `zeros` lent
 --     answerMax        the length of the longest answer
+--     hasRoom          whether so many places are left
 --     respondEnd       the place after the answer                respondRun    the run with the answer written into it
 --
 -- If the checker refused a vector that the search found, the answer would be frame 06 with its number: that it never does is no part

@@ -5,6 +5,8 @@
 --                      01, or more than 1,360 digits"
 --     isProblem l      not refused with 1: the counts are right, and the length agrees with them
 --     lineRefusal l    9, 1, or 0 if the line is a problem; 3 is left to the search
+--     nOf, maOf, mbOf, budgetOf     the fields of a frame           sideLong    the numbers of a side
+--     areDigits, numbersAt     all characters are digits; some numbers from a place on
 --     sideA, sideB     the numbers of the two sides
 --     problemFrame     the frame of a problem, without line end; that it is read back as that problem: proofs/Theorems/Problem.antt
 use mathlib.Core.List.{List, _++_}

@@ -1,4 +1,4 @@
--- What the theorems of proofs/Theorems say of the definitions above.
+-- What the theorems of proofs/Theorems say of the definitions of this folder.
 --
 --     Frame l           l is no line that refusal 9 is given to; Counts l    nor, as a frame, refusal 1
 --     LineRefuses l k   the case of the refusal k of a line before any search, 0 for none

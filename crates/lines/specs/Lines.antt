@@ -17,6 +17,8 @@
 --     part s i j        the bytes from place i up to place j
 --     keptRun, keptHeld the carry, and how much of it is in use, with more bytes of an unfinished line, up to its cap
 --     answeredRun       the carry after a line is answered, when none of it is in use
+--     isCarry           whether a carry is `cap` long, and no more of it in use      hasLine    and any of a line is in it
+--     bytesFrom, isWhole, lineFrom     the bytes that a call takes, whether they end a line, and that line
 --     fits              whether the call does anything: the carry is `cap` long and no more of it is in use, the place is in the
 --                       chunk, and there is room for the longest answer
 --     fedProgress       what it answers        fedCarry, fedOut    what it leaves: nothing is changed if it does not fit; without a
@@ -139,12 +141,12 @@ fedOut chunk at carry held out made =
 
 -- One call of `finish` -------------------------------------------------------------------------------------------------
 
--- whether the carry has an unfinished line
-abbrev pub isUnfinished : List ℕ → ℕ → Bool
-isUnfinished carry held = isCarry carry held && not (eqb held 0)
+-- whether the carry has any of a line
+abbrev pub hasLine : List ℕ → ℕ → Bool
+hasLine carry held = isCarry carry held && not (eqb held 0)
 
 unfoldable pub finishEnd : List ℕ → ℕ → List ℕ → ℕ → ℕ
-finishEnd carry held out made = cond (isUnfinished carry held) (respondEnd (take held carry) out made) made
+finishEnd carry held out made = cond (hasLine carry held) (respondEnd (take held carry) out made) made
 
 unfoldable pub finishRun : List ℕ → ℕ → List ℕ → ℕ → List ℕ
-finishRun carry held out made = cond (isUnfinished carry held) (respondRun (take held carry) out made) out
+finishRun carry held out made = cond (hasLine carry held) (respondRun (take held carry) out made) out

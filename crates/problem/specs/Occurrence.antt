@@ -12,7 +12,7 @@ use Rattle.integers.specs.Range.{isZero}
 use Rattle.integers.specs.Below.{anyBelow}
 use Rattle.problem.specs.Rows.{Rows}
 
--- whether a coefficient c in a row with modulus l makes its variable occur
+-- whether a coefficient c in a row with modulus l makes its variable occur; the modulus does not matter
 abbrev pub counts : ℤ → ℤ → Bool
 counts l c = not (isZero c)
 

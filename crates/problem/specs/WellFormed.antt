@@ -4,6 +4,7 @@
 --                           a side has exactly (rows × (n + 2)) numbers"
 --     Ranges n R            "Coefficients and constants lie in −1,000,000..1,000,000, moduli in 0..1,000,000."
 --     WellFormed            both, of a whole problem
+--     million, RowInRange   the ranges' end; what Ranges says of one row
 --     shape, inRanges       the same as tests
 --     wellFormed            the tests of a whole problem, the shape first
 use mathlib.Core.Path.{_≡_}

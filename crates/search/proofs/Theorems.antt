@@ -2,7 +2,8 @@
 --
 --     Refused       search-refused-is  table-refused-is                   each refusal exactly in its case, in the paper's order;
 --                   answered-well-formed                                  what is not refused is well formed
---     Unfinished    unfinished-is  unfinished-count  unfinished-writes    unfinished exactly when the steps outnumber the budget,
+--     Unfinished    outnumbered-is
+--                   unfinished-is  unfinished-count  unfinished-writes    unfinished exactly when the steps outnumber the budget,
 --                                                                         and then it writes nothing
 --     Larger        finished-larger  reply-larger  runs-larger            once finished, every larger budget answers the same
 --                   table-larger                                          and leaves the same table
@@ -10,6 +11,7 @@
 --     Right         refuted-accepted  refuted-none  solved-meets          a refutation that the checker accepts, a point that meets
 --                   exactly                                               all rows; refuted exactly when there is none
 --     TooLarge      too-large-next  too-large-is                          too large exactly when a step would pass a bound
+--     Number        search-number-is  table-number-is                     the number of an answer exactly in its case, 8 included
 --     Demand        demand                                                demand 3 of a call of `search`, all of the above
 pub mod Refused
 pub mod Unfinished
@@ -17,4 +19,5 @@ pub mod Larger
 pub mod Enough
 pub mod Right
 pub mod TooLarge
+pub mod Number
 pub mod Demand

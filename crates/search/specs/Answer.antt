@@ -3,11 +3,13 @@
 --     refusalOf            the first refusal before any step, 0 if there is none; `fit` says that the lent runs have their lengths
 --     searched             the state after as many steps as the budget allows, or as there are
 --     replyOf, copyOf      the answers for each refusal, and for none
+--     isRefuted, isSolved  tests of an outcome        writtenBy, writtenIf    a run that is written, or left as it was
+--     searchRefusal, tableRefusal     the refusals of the two calls before any step
 --     searchReply          what `search` answers
 --     searchVector         what its vector run then holds: the vector if the problem is refuted, else what it held
 --     searchPoint          what its point run then holds: the point if the problem is solved, else what it held
 --     tableReply, tableRun the same of `table_after`: the cells, unless it is refused
---     numberOf             the paper's number of an answer, 0 if it is no refusal; "too large" is 8
+--     numberOf             the paper's number of an answer, 0 if it is no refusal; "too large" is 8       tableNumber    of `table_after`
 use mathlib.Core.List.{List}
 use mathlib.Core.Bool.{Bool, true, false, cond, _&&_}
 use Prim.Native.Nat.{ℕ, zero, suc, _+_}
@@ -83,6 +85,10 @@ module _ (n ma mb : ℕ) (a b : List ℤ) (budget : ℕ) where
 
     abbrev pub tableRun : List ℤ
     tableRun = writtenIf tableRefusal true (searched .cells) cells
+
+abbrev pub tableNumber : TableReply → ℕ
+tableNumber Copied = 0
+tableNumber (NotCopied k) = k
 
 abbrev numberBy : Outcome → ℕ
 numberBy Unfinished = 0

@@ -19,6 +19,10 @@ use Rattle.search.specs.State.{State, upperCell, constOf, pivotOf}
 use Rattle.search.specs.Vector.{Vector}
 use Rattle.search.specs.Step.{closeTable}
 
+-- 12 × 2^56, which no sum of 12 products of numbers within 2^28 exceeds
+abbrev pub largestSum : ℕ
+largestSum = 864691128455135232
+
 -- the largest number of 32 bits, which the count of steps never passes
 abbrev pub lastCount : ℕ
 lastCount = 4294967295

@@ -1,5 +1,6 @@
--- What the theorems of proofs/Theorems say of the definitions above.
+-- What the theorems of proofs/Theorems say of the definitions of this folder.
 --
+--     SearchSays Fit k      the case of the number k of an answer of `search`, 8 included
 --     Outnumber s budget    the steps from s outnumber the budget: after no number of steps within it the search is finished
 --     saysUnfinished        whether an answer of `search` is "unfinished"
 --     Says r o              the answer r of `search` is no refusal, and its outcome is o
@@ -17,7 +18,7 @@
 use mathlib.Core.Path.{_≡_}
 use mathlib.Core.Bool.{Bool, true, false, cond}
 use mathlib.Core.List.{List}
-use Prim.Native.Nat.{ℕ, _+_, _<_, _≤_}
+use Prim.Native.Nat.{ℕ, suc, _+_, _<_, _≤_}
 use lib.IntN.{ℤ, pos, natAbs}
 use lib.Signed.{quotZ}
 use Rattle.integers.specs.Range.{isZero}
@@ -123,6 +124,12 @@ pub record Overflows (s : State) (budget : ℕ) : Type 0 where
   pub in-budget : k < budget
   pub unfinished : isUnfinished (after k s .outcome) ≡ true
   pub exceeds : Exceeds (after k s)
+
+-- the number of an answer: a refusal before any step, 8 if a step would pass a bound, 0 for none
+pub data SearchSays (n ma mb : ℕ) (a b : List ℤ) (budget : ℕ) (Fit : Type 0) : ℕ → Type 0 where
+  refused : {k : ℕ} → Refuses n ma mb a b Fit (suc k) → SearchSays n ma mb a b budget Fit (suc k)
+  too-large : Refuses n ma mb a b Fit 0 → Overflows (start n (rowsOf n ma mb a b)) budget → SearchSays n ma mb a b budget Fit 8
+  no-refusal : Refuses n ma mb a b Fit 0 → (Overflows (start n (rowsOf n ma mb a b)) budget → ⊥) → SearchSays n ma mb a b budget Fit 0
 
 -- Demand 3 -------------------------------------------------------------------------------------------------------------
 

@@ -1,6 +1,7 @@
--- Many steps, and what is answered after them.
+-- Many steps.
 --
 --     after b s      the state after b steps from s, or after the last, if there are fewer
+--     nextBy o s     one step more, if the outcome o is "unfinished"
 --     isUnfinished   whether an outcome is "unfinished"
 use mathlib.Core.Bool.{Bool, true, false}
 use Prim.Native.Nat.{ℕ, zero, suc}

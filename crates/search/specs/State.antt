@@ -5,6 +5,8 @@
 --                        the outcome; and what was found: the numerators when refuted, the point when solved
 --     Outcome            "one of four outcomes": unfinished, too large, refuted with q, solved
 --     widthOf, ownColumn "Columns are the n variables, then one per congruence in row order; N of them are in use."
+--     upperCell, startCell, startTable, givenOf    the start's parts: a cell of the rows, any cell, the table, what stays
+--     constOf, pivotOf, zOf    a row's constant, a pivot's row, a pivot's z
 --     start n R          "all zero before the rows are entered"; then the rows and the diagonal
 use mathlib.Core.List.{List}
 use mathlib.Core.Bool.{cond, _&&_}

@@ -6,6 +6,8 @@
 --     quotient           "Divide the second's entry by the first's; the quotient is cut towards zero."
 --     reduceOf           Reduce
 --     closeOf            Close
+--     closeTable, residualOf    the table of a closed row, and its residual      passed, placed    the state after it, without and with a pivot
+--     placeOf, pointOf   a place of the point, and the point                 closed    with the last row closed, it is solved
 --     stepOf             "Reduce, if at least two of columns r..N are nonzero in the current row"; "Close, otherwise"
 --     tooLarge           "That step counts; the table stays as before it."
 --

@@ -2,7 +2,7 @@
 --
 --     bound               2^28, the largest magnitude of a cell, of a z and of a place of the point
 --     cell t i j          the cell in row i and column j
---     Bounded t           every cell is at most the bound in magnitude
+--     Bounded run         every number of a run is at most the bound in magnitude
 --     subtractColumn      "Subtract quotient × first column from the second, through the whole table."
 --     subtractionFits     whether no cell that it puts is too large
 --     swapColumns, negateColumn     "swap it with column r and negate it .., both through the whole table"

@@ -20,7 +20,7 @@ ghost use Rattle.search.specs.Vector.{checked, unitVector, columnSum, ba
 ghost use Rattle.search.specs.Step.{least, other, quotient, tooLarge, closeTable, residualOf, passed, placed, solveBy, closed, refuteBy, closeBy, closeOf, stepOf};
 ghost use Rattle.search.specs.Run.{isUnfinished, after};
 ghost use Rattle.search.specs.Answer.{refusalOf, isRefuted, isSolved, writtenBy, searched, searchReply, searchVector, searchPoint, tableReply, tableRun};
-ghost use Rattle.search.specs.Code.{lastCount, enteredRow, enteredDiagonal, Sound, Backable, Backs, Solvable, Vectorable, Closable};
+ghost use Rattle.search.specs.Code.{largestSum, lastCount, enteredRow, enteredDiagonal, Sound, Backable, Backs, Solvable, Vectorable, Closable};
 
 // How a search ended, or that it did not.
 pub enum Outcome {
@@ -166,6 +166,7 @@ fn lengths_fit(n: usize, ma: usize, mb: usize, vector: usize, point: usize) -> b
     point == n
 }
 
+// The state after as many steps as the budget allows, or as there are.
 fn searched(n: usize, ma: usize, mb: usize, a: &[i64], b: &[i64], budget: u32) -> State
     requires { ⌜ WellFormed n ma mb (now a) (now b) ⌝ }
     ensures { λ r. ⌜ r ≡ searched n ma mb (now (a .entry)) (now (b .entry)) budget ⌝ }
@@ -347,6 +348,7 @@ impl State {
         next
     }
 
+    // The vector of the current row, which refutes with pivot e or with none; t is its table.
     fn vector(self, t: [i64; 864], e: i64) -> Vector
         requires { ⌜ Vectorable self t ⌝ }
         ensures { λ r. ⌜ r ≡ vectorOf self t e ⌝ }
@@ -365,6 +367,7 @@ impl State {
         v
     }
 
+    // The step counts, and all else stays.
     fn too_large(self) -> State
         requires { ⌜ self .steps < lastCount ⌝ }
         ensures { λ r. ⌜ r ≡ tooLarge self ⌝ }
@@ -387,6 +390,7 @@ impl State {
         }
     }
 
+    // The current row is closed without pivot.
     fn passed(self, t: [i64; 864]) -> State
         requires { ⌜ (self .row < 36) × (self .steps < lastCount) ⌝ }
         ensures { λ r. ⌜ r ≡ passed self t ⌝ }
@@ -409,6 +413,7 @@ impl State {
         }
     }
 
+    // The current row is closed with a pivot, whose z is known.
     fn placed(self, t: [i64; 864], z: i64) -> State
         requires { ⌜ (self .row < 36) × (self .count < 12) × (self .steps < lastCount) ⌝ }
         ensures { λ r. ⌜ r ≡ placed self t z ⌝ }
@@ -565,6 +570,7 @@ fn put(cells: &mut [i64; 864], i: usize, j: usize, x: i64)
     cells[i * 24 + j] = x;
 }
 
+// Whether no cell of the second column would be too large.
 fn subtraction_fits(cells: &[i64; 864], first: usize, second: usize, q: i64) -> bool
     requires { ⌜ (first < 24) × (second < 24) × (natAbs q ≤ bound) × Bounded (now cells) ⌝ }
     ensures { λ r. ⌜ r ≡ subtractionFits (now (cells .entry)) first second q ⌝ }
@@ -722,6 +728,7 @@ fn unit_vector(i: usize, e: i64) -> Vector
     checked(p, e)
 }
 
+// A vector, and whether all of its numbers are in range.
 fn checked(p: [i64; 12], q: i64) -> Vector
     ensures { λ r. ⌜ r ≡ checked p q ⌝ }
 {
@@ -810,7 +817,7 @@ fn scaled(p: [i64; 12], f: i64) -> [i64; 12]
     out
 }
 
-// The smallest number from 2 up that does not divide s.
+// The smallest number from 2 up that does not divide s; 2 for 0, which every number divides.
 fn non_divisor(s: i64) -> i64
     requires { ⌜ natAbs s < 2 ^ 62 ⌝ }
     ensures { λ r. ⌜ r ≡ pos (nonDivisor s) ⌝ }
@@ -836,7 +843,7 @@ fn in_bound(x: i64) -> bool
     integers::within(268435456, x)
 }
 
-// Cut towards zero.
+// The quotient of y by x, cut towards zero.
 fn quotient(y: i64, x: i64) -> i64
     requires { ⌜ (natAbs y ≤ bound) × (natAbs x ≤ bound) × (natAbs x ≡ 0 → ⊥) ⌝ }
     ensures { λ r. ⌜ r ≡ quotient y x ⌝ }
@@ -859,7 +866,7 @@ fn less_times(y: i64, q: i64, x: i64) -> i64
 }
 
 fn less(d: i64, s: i64) -> i64
-    requires { ⌜ (natAbs d ≤ bound) × (natAbs s ≤ 864691128455135232) ⌝ }
+    requires { ⌜ (natAbs d ≤ bound) × (natAbs s ≤ largestSum) ⌝ }
     ensures { λ r. ⌜ r ≡ d -ℤ s ⌝ }
 {
     d - s

@@ -6,10 +6,10 @@ use Prim.Native.Nat.{ℕ}
 use lib.IntN.{ℤ}
 use Rattle.integers.proofs.Determined.{determined}
 use Rattle.checker.specs.Refutation.{refusal}
-use Rattle.checker.specs.Answer.{verdictOf, interpolantAnswer, interpolantRun}
-use Rattle.search.specs.Answer.{searchReply, searchVector, searchPoint, tableReply, tableRun}
+use Rattle.checker.specs.Answer.{verdictOf, verdictNumber, interpolantAnswer, interpolantRun}
+use Rattle.search.specs.Answer.{searchReply, searchVector, searchPoint, tableReply, tableRun, tableNumber}
 use Rattle.frames.specs.Answer.{respondEnd, respondRun}
-use Rattle.vayalittu.specs.Answers.{verdictNumber, factOf, answerOf, copyNumber}
+use Rattle.vayalittu.specs.Answers.{factOf, answerOf}
 use Rattle.vayalittu.specs.declared.Answer.{Answer}
 use Rattle.vayalittu.specs.declared.Fact.{Fact}
 
@@ -34,7 +34,7 @@ module _ (n ma mb : ℕ) (a b : List ℤ) where
     pub search-point-determined : (vector point exit other : List ℤ) → exit ≡ searchPoint n ma mb a b budget vector point → other ≡ searchPoint n ma mb a b budget vector point → exit ≡ other
     search-point-determined vector point exit other = determined
 
-    pub table-determined : (cells : List ℤ) (r s : ℕ) → r ≡ copyNumber (tableReply n ma mb a b budget cells) → s ≡ copyNumber (tableReply n ma mb a b budget cells) → r ≡ s
+    pub table-determined : (cells : List ℤ) (r s : ℕ) → r ≡ tableNumber (tableReply n ma mb a b budget cells) → s ≡ tableNumber (tableReply n ma mb a b budget cells) → r ≡ s
     table-determined cells r s = determined
 
     pub table-run-determined : (cells exit other : List ℤ) → exit ≡ tableRun n ma mb a b budget cells → other ≡ tableRun n ma mb a b budget cells → exit ≡ other

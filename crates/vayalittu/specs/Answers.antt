@@ -1,16 +1,13 @@
--- The checker's and the search's answers as C sees them. A refusal is the paper's number, or 0.
+-- The checker's and the search's answers as C sees them. A refusal is the paper's number, or 0; that of a verdict and of a copied table
+-- is their `verdictNumber` and `tableNumber`.
 --
---     verdictNumber     the refusal of a verdict
 --     factOf            refusal, constant and modulus; both 0 if it is refused
 --     outcomeNumber     "one of four outcomes": 1 refuted, 2 solved, 3 too large, 4 unfinished
 --     denominatorOf     q, 0 unless the problem is refuted
 --     answerOf          refusal, outcome, steps and q; outcome, steps and q are 0 if it is refused, but "too large" is refusal 8 with
 --                       its outcome and its steps
---     copyNumber        the refusal of a copied table
 use Prim.Native.Nat.{ℕ}
 use lib.IntN.{ℤ, pos}
-use Rattle.checker.specs.declared.Verdict.{Verdict}
-use Rattle.checker.specs.declared.Verdict.the-variants.{Accepted, Refused as Rejected}
 use Rattle.checker.specs.declared.Answer.{Answer as Stated}
 use Rattle.checker.specs.declared.Answer.the-variants.{Fact as States, Refused as Unstated}
 use Rattle.search.specs.declared.Outcome.{Outcome}
@@ -18,14 +15,8 @@ use Rattle.search.specs.declared.Outcome.the-variants.{Unfinished, TooLarge, Re
 use Rattle.search.specs.Answer.{numberOf}
 use Rattle.search.specs.declared.Reply.{Reply}
 use Rattle.search.specs.declared.Reply.the-variants.{Refused, Answered}
-use Rattle.search.specs.declared.TableReply.{TableReply}
-use Rattle.search.specs.declared.TableReply.the-variants.{Refused as NotCopied, Copied}
 use Rattle.vayalittu.specs.declared.Answer.{Answer}
 use Rattle.vayalittu.specs.declared.Fact.{Fact}
-
-abbrev pub verdictNumber : Verdict → ℕ
-verdictNumber Accepted = 0
-verdictNumber (Rejected k) = k
 
 abbrev pub factOf : Stated → Fact
 factOf (States constant modulus) = record { refusal = 0; constant = constant; modulus = modulus }
@@ -46,7 +37,3 @@ denominatorOf Unfinished = pos 0
 abbrev pub answerOf : Reply → Answer
 answerOf (Refused k) = record { refusal = k; outcome = 0; steps = 0; q = pos 0 }
 answerOf (Answered r) = record { refusal = numberOf (Answered r); outcome = outcomeNumber (r .outcome); steps = r .steps; q = denominatorOf (r .outcome) }
-
-abbrev pub copyNumber : TableReply → ℕ
-copyNumber Copied = 0
-copyNumber (NotCopied k) = k

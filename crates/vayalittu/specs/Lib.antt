@@ -1,4 +1,4 @@
 -- What the functions for C answer.
 --
---     Answers    verdictNumber  factOf  answerOf  copyNumber     the checker's and the search's answers as C sees them
+--     Answers    factOf  answerOf     the checker's and the search's answers as C sees them
 pub mod Answers

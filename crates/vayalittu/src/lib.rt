@@ -1,11 +1,11 @@
 // The functions for C. include/vayalittu.h says what each means to a C program.
 ghost use mathlib.Core.Path.{_≡_};
 ghost use Rattle.checker.specs.Refutation.{refusal};
-ghost use Rattle.checker.specs.Answer.{verdictOf, interpolantAnswer, interpolantRun};
-ghost use Rattle.search.specs.Answer.{searchReply, searchVector, searchPoint, tableReply, tableRun};
+ghost use Rattle.checker.specs.Answer.{verdictOf, verdictNumber, interpolantAnswer, interpolantRun};
+ghost use Rattle.search.specs.Answer.{searchReply, searchVector, searchPoint, tableReply, tableRun, tableNumber};
 ghost use Rattle.search.specs.declared.Reply.the-variants.{Answered};
 ghost use Rattle.frames.specs.Answer.{respondEnd, respondRun};
-ghost use Rattle.vayalittu.specs.Answers.{verdictNumber, factOf, answerOf, copyNumber};
+ghost use Rattle.vayalittu.specs.Answers.{factOf, answerOf};
 
 // What a search answers.
 #[repr(C)]
@@ -84,7 +84,7 @@ pub extern "C" fn vayalittu_table(
     budget: u32,
     cells: &mut [i64],
 ) -> u32
-    ensures { λ r. ⌜ r ≡ copyNumber (tableReply n ma mb (now (a .entry)) (now (b .entry)) budget (now (cells .entry))) ⌝ }
+    ensures { λ r. ⌜ r ≡ tableNumber (tableReply n ma mb (now (a .entry)) (now (b .entry)) budget (now (cells .entry))) ⌝ }
     ensures { λ r. ⌜ now (cells .exit) ≡ tableRun n ma mb (now (a .entry)) (now (b .entry)) budget (now (cells .entry)) ⌝ }
 {
     copied(search::table_after(n, ma, mb, a, b, budget, cells))
@@ -173,7 +173,7 @@ fn answered(given: search::Answer) -> Answer
 }
 
 fn copied(given: search::TableReply) -> u32
-    ensures { λ r. ⌜ r ≡ copyNumber given ⌝ }
+    ensures { λ r. ⌜ r ≡ tableNumber given ⌝ }
 {
     match given {
         search::TableReply::Copied => 0,

@@ -12,14 +12,12 @@ use mathlib.Core.List.{List}
 use mathlib.Core.Bool.{Bool, true, false, cond}
 use Prim.Native.Nat.{ℕ, _*_, _<_, _≤_}
 use native.Mathlib.Omega.{arith}
-use lib.IntN.{ℤ, pos, natAbs, _+ℤ_, _*ℤ_}
-use lib.Signed.{remZ, _≤ℤ_}
-use Rattle.integers.specs.Range.{isNegative}
+use lib.IntN.{ℤ, pos, natAbs, _*ℤ_}
+use lib.Signed.{_≤ℤ_}
 use Rattle.integers.specs.Gcd.{gcdFrom}
 use Rattle.integers.specs.Sum.{dot}
-use Rattle.integers.proofs.Laws.Magnitude.{natAbs-add, mul-bound}
+use Rattle.integers.proofs.Laws.Magnitude.{mul-bound}
 use Rattle.integers.proofs.Laws.Order.{parts-le}
-use Rattle.integers.proofs.Laws.Division.{rem-le}
 use Rattle.integers.proofs.Laws.Sum.{dot-bound}
 use Rattle.integers.proofs.Laws.Gcd.{gcdFrom-natural, gcdFrom-le}
 use Rattle.problem.specs.Rows.{Rows, sideOf}
@@ -27,7 +25,6 @@ use Rattle.problem.specs.WellFormed.{million}
 use Rattle.problem.specs.Occurrence.{shared, localA}
 use Rattle.checker.specs.Refutation.{columnSum, numerator}
 use Rattle.checker.specs.Fact.{modulusOf, rawFact}
-use Rattle.checker.specs.NormalForm.{residue}
 use Rattle.checker.specs.Code.{Weighable, localSum, largest, Small}
 
 -- Sums -----------------------------------------------------------------------------------------------------------------

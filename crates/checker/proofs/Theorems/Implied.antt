@@ -20,18 +20,17 @@ use Rattle.checker.proofs.Laws.Refusal.{refusal-none}
 use Rattle.checker.proofs.Laws.Weighed.{raw-implied, raw-excluded}
 use Rattle.checker.proofs.Laws.Same.{normal-same, normal-zero}
 
-module _ (n ma mb : ℕ) (a b : List ℤ) (q : ℤ) (p : List ℤ) (accepted : refusal n ma mb a b q p ≡ 0) where
-  abbrev A : Rows
-  A = sideOf n ma a
+-- of any vector
+pub implied : (n : ℕ) (A B : Rows) (p X : ℕ → ℤ) → Meets n A X → Holds n (interpolantOf n A B p) X
+implied n A B p X s = normal-same n (rawFact n A B p) .from X (raw-implied n A B p X s)
 
-  abbrev B : Rows
-  B = sideOf n mb b
-
-  pub implied : (X : ℕ → ℤ) → Meets n A X → Holds n (interpolantOf n A B (numerator p)) X
-  implied X s = normal-same n (rawFact n A B (numerator p)) .from X (raw-implied n A B (numerator p) X s)
-
-  pub excluded : (X : ℕ → ℤ) → Meets n B X → Holds n (interpolantOf n A B (numerator p)) X → ⊥
-  excluded X s h = raw-excluded n A B (numerator p) q (refusal-none n ma mb a b q p accepted .refutes) X s (normal-same n (rawFact n A B (numerator p)) .to X h)
+-- of an accepted one
+pub excluded : (n ma mb : ℕ) (a b : List ℤ) (q : ℤ) (p : List ℤ) → refusal n ma mb a b q p ≡ 0 → (X : ℕ → ℤ) → Meets n (sideOf n mb b) X →
+    Holds n (interpolantOf n (sideOf n ma a) (sideOf n mb b) (numerator p)) X → ⊥
+excluded n ma mb a b q p accepted X s h =
+    let A = sideOf n ma a in
+    let B = sideOf n mb b in
+    raw-excluded n A B (numerator p) q (refusal-none n ma mb a b q p accepted .refutes) X s (normal-same n (rawFact n A B (numerator p)) .to X h)
 
 -- of any vector
 pub only-shared : (n : ℕ) (A B : Rows) (p : ℕ → ℤ) (j : ℕ) → (interpolantOf n A B p .coef j ≡ pos 0 → ⊥) → shared A B j ≡ true

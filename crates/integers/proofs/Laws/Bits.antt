@@ -20,23 +20,20 @@
 --     Needs         fits-both          OP (stored x) (stored y) fits
 --                   divisor-need       what `/` and `%` ask: the divisor's bits are not 0, and the quotient fits
 --     Tests         bits-eq            equal bits (`==` taken): equal numbers
---                   bits-ne            different bits (`!=` taken): different numbers
 --                   bits-pos           z ≠ 0: its bits are not 0
---                   bits-nonzero       bits that are not 0: their number is not 0
 --                   zero-bits          z == 0, as a flag, is `isZero z`
 --
 -- All of it is for 64 bits, the one width of signed numbers here. Assumes nothing.
 use mathlib.Core.Path.{_≡_, refl, sym, _∙_, ap, ap₂, subst⁻¹}
-use mathlib.Core.Bool.{Bool, true, false}
 use Prim.Native.Nat.{ℕ, suc, _+_, _*_, _-_, _<_, _≤_, _^_}
-use native.Mathlib.Nat.{pos-of-ne-zero, lt-of-le-of-lt}
+use native.Mathlib.Nat.{lt-of-le-of-lt}
 use native.Mathlib.Omega.{arith}
 use borrow.Author.Tests.{ne-eqb}
-use lib.Dec.{eqb, ltb}
+use lib.Dec.{eqb}
 use lib.IntN.{ℤ, pos, negsuc, natAbs, _+ℤ_, _-ℤ_, _*ℤ_}
 use lib.Signed.{mag, quotZ, remZ, mag-rem}
 use mir.Syntax.{w64}
-use mir.Val.{SFits, toZ, ofZ, sel}
+use mir.Val.{SFits, toZ, ofZ}
 use mir.ValLaws.{toZ-ofZ, toZ-pos}
 use Rattle.integers.specs.Range.{isZero}
 use Rattle.integers.proofs.Laws.Magnitude.{natAbs-sub, add-bound, sub-bound, mul-bound}
@@ -105,19 +102,9 @@ module _ (op : ℤ → ℤ → ℤ) {x y : ℤ} (fx : SFits w64 x) (fy : SFits w
 pub bits-eq : (a b : ℤ) → SFits w64 a → SFits w64 b → ofZ w64 a ≡ ofZ w64 b → a ≡ b
 bits-eq a b f g e = sym (stored-is f) ∙ ap (toZ w64) e ∙ stored-is g
 
-pub bits-ne : (a b : ℤ) → (ofZ w64 a ≡ ofZ w64 b → ⊥) → a ≡ b → ⊥
-bits-ne a b h e = h (ap (ofZ w64) e)
-
 pub bits-pos : (z : ℤ) → SFits w64 z → 0 < natAbs z → 0 < ofZ w64 z
 bits-pos (pos n) f h = h
 bits-pos (negsuc n) f h = omega (arith, f .sfits)
-
-pub bits-nonzero : (n : ℕ) → (n ≡ 0 → ⊥) → 0 < natAbs (toZ w64 n)
-bits-nonzero n h = go (ltb n (2 ^ 63))
-  where
-    go : (t : Bool) → 0 < natAbs (sel t (pos n) (negsuc (2 ^ 64 - suc n)))
-    go true = pos-of-ne-zero h
-    go false = omega arith
 
 pub zero-bits : (z : ℤ) → SFits w64 z → eqb (ofZ w64 z) 0 ≡ isZero z
 zero-bits (pos n) f = refl

@@ -5,11 +5,11 @@
 --     decides-false   P does not hold: t is false
 --     decides-stable  P, if it is impossible that P does not hold
 --     Naturals        by-le  by-lt  by-eq               leb m n, ltb m n, eqb m n
---     Integers        by-le-ℤ  by-lt-ℤ                  leZ a b, ltZ a b
+--     Integers        by-lt-ℤ                           ltZ a b
 --                     by-zero  by-nonneg                isZero z, not (isNegative z)
 --                     by-within  by-divides             within B z, divides a b
 --     Composed        by-and  by-not                    _&&_ of a pair, not of a negation
---                     by-all  by-any                    allBelow, anyBelow
+--                     by-all                            allBelow
 --                     by-same                           the statement replaced by an equivalent one
 --
 -- Assumes nothing.
@@ -20,14 +20,14 @@ use native.Mathlib.Omega.{arith}
 use borrow.Author.Tests.{ltb-true, lt-ltb, leb-true, le-leb, eqb-true, eq-eqb, not-true}
 use lib.Dec.{leb, ltb, eqb}
 use lib.IntN.{ℤ, pos, natAbs}
-use lib.Signed.{leZ, ltZ, _≤ℤ_, _<ℤ_}
+use lib.Signed.{ltZ, _≤ℤ_, _<ℤ_}
 use Rattle.integers.specs.Range.{isZero, isNegative, within}
 use Rattle.integers.specs.Divisibility.{_∣ℤ_, divides}
-use Rattle.integers.specs.Below.{allBelow, anyBelow}
+use Rattle.integers.specs.Below.{allBelow}
 use Rattle.integers.proofs.Laws.Magnitude.{natAbs-zero}
-use Rattle.integers.proofs.Laws.Order.{le-true, lt-true, lt-false, le-is-true, lt-is-true, lt-is-false, le-parts, lt-parts, parts-le, parts-lt}
+use Rattle.integers.proofs.Laws.Order.{lt-true, lt-false, lt-is-true, lt-is-false, le-parts, lt-parts, parts-le, parts-lt}
 use Rattle.integers.proofs.Laws.Divisibility.{divides-true, divides-is}
-use Rattle.integers.proofs.Laws.Below.{all-each, all-true, any-true, any-place}
+use Rattle.integers.proofs.Laws.Below.{all-each, all-true}
 
 pub record Decides (t : Bool) (P : Type 0) : Type 0 where
   pub yes : t ≡ true → P
@@ -56,9 +56,6 @@ pub by-eq : (m n : ℕ) → Decides (eqb m n) (m ≡ n)
 by-eq m n = record { yes = eqb-true m n; is = eq-eqb m n }
 
 -- Integers -------------------------------------------------------------------------------------------------------------
-
-pub by-le-ℤ : (a b : ℤ) → Decides (leZ a b) (a ≤ℤ b)
-by-le-ℤ a b = record { yes = λ e. parts-le a b (le-true a b e); is = λ h. le-is-true a b (le-parts a b h) }
 
 pub by-lt-ℤ : (a b : ℤ) → Decides (ltZ a b) (a <ℤ b)
 by-lt-ℤ a b = record { yes = λ e. parts-lt a b (lt-true a b e); is = λ h. lt-is-true a b (lt-parts a b h) }
@@ -90,12 +87,6 @@ by-not {t = false} d = record { yes = λ h. decides-no d refl; is = λ h. refl }
 
 pub by-all : (n : ℕ) (t : ℕ → Bool) (P : ℕ → Type 0) → ((i : ℕ) → Decides (t i) (P i)) → Decides (allBelow n t) ((i : ℕ) → i < n → P i)
 by-all n t P d = record { yes = λ e i h. d i .yes (all-each n t e i h); is = λ h. all-true n t (λ i l. d i .is (h i l)) }
-
-pub by-any : (n : ℕ) (t : ℕ → Bool) (P : ℕ → Type 0) → ((i : ℕ) → Decides (t i) (P i)) → Decides (anyBelow n t) ((i : ℕ) × (i < n) × P i)
-by-any n t P d = record {
-  yes = λ e. let p = any-place n t e in (p .0, p .1, d (p .0) .yes (p .2));
-  is = λ h. any-true n t (h .0) (h .1) (d (h .0) .is (h .2));
-}
 
 pub by-same : {t : Bool} {P Q : Type 0} → (P → Q) → (Q → P) → Decides t P → Decides t Q
 by-same f g d = record { yes = λ e. f (d .yes e); is = λ h. d .is (g h) }

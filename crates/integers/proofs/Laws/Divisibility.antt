@@ -13,15 +13,14 @@
 --     Magnitudes     ∣-abs          d ∣ a: d ∣ |a|      abs-∣        d ∣ |a|: d ∣ a
 --     Division       ∣-exact        b ∣ a: (a / b) b = a
 --                    ∣-no-rem       b ∣ a: a % b = 0    no-rem-∣     a % b = 0: b ∣ a
---                    ∣-rem          d ∣ a and d ∣ b: d ∣ a % b
 --                    ∣-of-rem       d ∣ b and d ∣ a % b: d ∣ a
 --                    quot-by-zero   0 ∣ a: a / 0 = 0
 --     Test           divides-true   divides a b is true: a ∣ b
 --                    divides-false  divides a b is false: not a ∣ b
 --                    divides-is     a ∣ b: divides a b is true
---     Congruence     congruent-refl  congruent-sym  congruent-trans
---                    congruent-add  congruent-sub  congruent-neg  congruent-mul
---                    congruent-zero  modulo 0: equal      congruent-weaker  modulo a divisor of the modulus
+--     Congruence     congruent-refl  congruent-sym
+--                    congruent-add  congruent-neg
+--                    congruent-zero  modulo 0: equal
 --                    congruent-∣     a ≡ b (mod m) and m ∣ a: m ∣ b
 --
 -- Assumes nothing.
@@ -38,7 +37,7 @@ use Rattle.integers.specs.Divisibility.{_∣ℤ_, divides, Congruent}
 use Rattle.integers.proofs.Laws.Ring.{one-mul, mul-one, from1, from2, eq-of-sub, sub-self, sub-of-eq}
 use Rattle.integers.proofs.Laws.Normaliser.{ring!, quote}
 use Rattle.integers.proofs.Laws.Magnitude.{natAbs-zero, natAbs-mul, mul-cancel}
-use Rattle.integers.proofs.Laws.Division.{quot-rem, rem-is, rem-mul}
+use Rattle.integers.proofs.Laws.Division.{quot-rem, rem-mul}
 
 -- 0 and 1 --------------------------------------------------------------------------------------------------------------
 
@@ -138,9 +137,6 @@ pub ∣-no-rem : (a b : ℤ) → b ∣ℤ a → remZ a b ≡ pos 0
 pub ∣-exact : (a b : ℤ) → b ∣ℤ a → quotZ a b *ℤ b ≡ a
 ∣-exact a b h = from2 (pos 1) (negsuc 0) (quot-rem a b) (∣-no-rem a b h) (ring! (a ∷ b ∷ quotZ a b ∷ remZ a b ∷ []) (search quote depth 40 fits 20000) tt)
 
-pub ∣-rem : {d : ℤ} (a b : ℤ) → d ∣ℤ a → d ∣ℤ b → d ∣ℤ remZ a b
-∣-rem a b h k = ∣-eq (rem-is a b) (∣-sub h (∣-mul (quotZ a b) k))
-
 pub ∣-of-rem : {d : ℤ} (a b : ℤ) → d ∣ℤ b → d ∣ℤ remZ a b → d ∣ℤ a
 ∣-of-rem a b h k = ∣-eq (quot-rem a b) (∣-add (∣-mul (quotZ a b) h) k)
 
@@ -166,26 +162,14 @@ congruent-refl m a = ∣-of-zero m (sub-self a)
 pub congruent-sym : (m a b : ℤ) → Congruent m a b → Congruent m b a
 congruent-sym m a b h = ∣-eq (ring! (a ∷ b ∷ []) (search quote depth 40 fits 20000) tt) (∣-neg h)
 
-pub congruent-trans : (m a b c : ℤ) → Congruent m a b → Congruent m b c → Congruent m a c
-congruent-trans m a b c h k = ∣-eq (ring! (a ∷ b ∷ c ∷ []) (search quote depth 40 fits 20000) tt) (∣-add h k)
-
 pub congruent-add : (m a b c d : ℤ) → Congruent m a b → Congruent m c d → Congruent m (a +ℤ c) (b +ℤ d)
 congruent-add m a b c d h k = ∣-eq (ring! (a ∷ b ∷ c ∷ d ∷ []) (search quote depth 40 fits 20000) tt) (∣-add h k)
 
 pub congruent-neg : (m a b : ℤ) → Congruent m a b → Congruent m (negℤ a) (negℤ b)
 congruent-neg m a b h = ∣-eq (ring! (a ∷ b ∷ []) (search quote depth 40 fits 20000) tt) (∣-neg h)
 
-pub congruent-sub : (m a b c d : ℤ) → Congruent m a b → Congruent m c d → Congruent m (a -ℤ c) (b -ℤ d)
-congruent-sub m a b c d h k = congruent-add m a b (negℤ c) (negℤ d) h (congruent-neg m c d k)
-
-pub congruent-mul : (m k a b : ℤ) → Congruent m a b → Congruent m (k *ℤ a) (k *ℤ b)
-congruent-mul m k a b h = ∣-eq (ring! (k ∷ a ∷ b ∷ []) (search quote depth 40 fits 20000) tt) (∣-mul k h)
-
 pub congruent-zero : (a b : ℤ) → (Congruent (pos 0) a b → a ≡ b) × (a ≡ b → Congruent (pos 0) a b)
 congruent-zero a b = ((λ h. eq-of-sub a b (zero-∣ h)), (λ e. ∣-of-zero (pos 0) (sub-of-eq a b e)))
-
-pub congruent-weaker : (d m a b : ℤ) → d ∣ℤ m → Congruent m a b → Congruent d a b
-congruent-weaker d m a b h k = ∣-trans h k
 
 pub congruent-∣ : (m a b : ℤ) → Congruent m a b → m ∣ℤ a → m ∣ℤ b
 congruent-∣ m a b h k = ∣-eq (ring! (a ∷ b ∷ []) (search quote depth 40 fits 20000) tt) (∣-sub k h)

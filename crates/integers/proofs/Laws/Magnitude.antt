@@ -10,7 +10,6 @@
 --                   mul-bound      likewise |a b| ≤ A B
 --     Zero          natAbs-zero    |z| = 0: z = 0
 --                   natAbs-pos     z ≠ 0: 0 < |z|
---                   natAbs-ne      0 < |z|: z ≠ 0
 --     Cancelling    nonzero-mul    g ≠ 0 and g x = 0: x = 0
 --                   mul-cancel     g ≠ 0 and g x = g y: x = y
 --
@@ -83,9 +82,6 @@ pub natAbs-pos : (z : ℤ) → (z ≡ pos 0 → ⊥) → 0 < natAbs z
 natAbs-pos (pos zero) h = absurd (h refl)
 natAbs-pos (pos (suc n)) h = omega arith
 natAbs-pos (negsuc n) h = omega arith
-
-pub natAbs-ne : (z : ℤ) → 0 < natAbs z → z ≡ pos 0 → ⊥
-natAbs-ne z h e = let k = ap natAbs e in omega arith
 
 -- Cancelling -----------------------------------------------------------------------------------------------------------
 

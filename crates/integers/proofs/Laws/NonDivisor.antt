@@ -2,7 +2,6 @@
 --
 --     nonDivisor-is        s ≠ 0: nonDivisor s is the LeastNonDivisor of s
 --     nonDivisor-unique    it is the only one: what a loop over 2, 3, .. stops at is nonDivisor s
---     nonDivisor-le        s ≠ 0: nonDivisor s ≤ |s| + 1
 --     nonDivisor-zero      nonDivisor 0 = 2
 --
 -- Assumes nothing.
@@ -53,9 +52,6 @@ both s n = found (natAbs s) 2 s n (omega arith) (some (natAbs s) refl) (omega ar
 
 pub nonDivisor-is : (s : ℤ) → (s ≡ pos 0 → ⊥) → LeastNonDivisor s (nonDivisor s)
 nonDivisor-is s n = both s n .0
-
-pub nonDivisor-le : (s : ℤ) → (s ≡ pos 0 → ⊥) → nonDivisor s ≤ natAbs s + 1
-nonDivisor-le s n = both s n .1
 
 pub nonDivisor-zero : nonDivisor (pos 0) ≡ 2
 unfolding nonDivisor nonDivisorFrom

@@ -12,7 +12,7 @@
 --     Ranges         abs-within     -B ≤ z ≤ B: |z| ≤ B           within-abs    the other way round
 --     Differences    le-difference  a ≤ b: b = a + n              difference-le the other way round
 --                    mul-le         0 ≤ k and a ≤ b: k a ≤ k b
---                    le-by1 le-by2  x ≤ y, where y - x is a sum of natural multiples of differences b - a with a ≤ b
+--                    le-by2         x ≤ y, where y - x is a sum of natural multiples of differences b - a with a ≤ b
 --     Signs          negative-abs   z < 0: -z = |z|               nonnegative-abs   otherwise z = |z|
 --                    nonneg-is      0 ≤ z: z = |z|
 --     Above 0        positive-is  positive-lt  positive-ne  positive-mul  positive-of     of `Positive`
@@ -185,13 +185,6 @@ mul-le k a b h g = let d = le-difference a b g in
   where
     scaled : (k a b d m : ℤ) → b ≡ a +ℤ d → k ≡ m → k *ℤ b ≡ k *ℤ a +ℤ m *ℤ d
     scaled k a b d m e f = from2 k d e f (ring! (k ∷ a ∷ b ∷ d ∷ m ∷ []) (search quote depth 40 fits 20000) tt)
-
-pub le-by1 : {x y a b : ℤ} (k n : ℕ) → a ≤ℤ b → y -ℤ x ≡ pos k *ℤ (b -ℤ a) +ℤ pos n → x ≤ℤ y
-le-by1 {x} {y} {a} {b} k n h e = let d = le-difference a b h in
-    difference-le x y (k * d .0 + n) (joined x y a b (pos k) (pos n) (pos (d .0)) (d .1) e)
-  where
-    joined : (x y a b k n d : ℤ) → b ≡ a +ℤ d → y -ℤ x ≡ k *ℤ (b -ℤ a) +ℤ n → y ≡ x +ℤ (k *ℤ d +ℤ n)
-    joined x y a b k n d f g = from2 k (pos 1) f g (ring! (x ∷ y ∷ a ∷ b ∷ k ∷ n ∷ d ∷ []) (search quote depth 40 fits 20000) tt)
 
 pub le-by2 : {x y a b c d : ℤ} (k l n : ℕ) → a ≤ℤ b → c ≤ℤ d → y -ℤ x ≡ pos k *ℤ (b -ℤ a) +ℤ pos l *ℤ (d -ℤ c) +ℤ pos n → x ≤ℤ y
 le-by2 {x} {y} {a} {b} {c} {d} k l n h i e = let u = le-difference a b h in let v = le-difference c d i in

@@ -22,7 +22,7 @@ use lib.ListN.{length, take, drop, length-take, length-drop}
 use lib.Seq.{sets, length-take-le, drop-drop, drop-at}
 use Rattle.frames.specs.Answer.{answerMax, hasRoom, answerOf, respondEnd, respondRun}
 use Rattle.frames.proofs.Laws.Respond.{respond-answered, respond-kept}
-use Rattle.lines.specs.Lines.{cap, outOf, restOf, lastOf, before, endFrom, part, keptRun, keptHeld, answeredRun, fits, bytesFrom, lineFrom, fedProgress, fedCarry, fedOut, isUnfinished, finishEnd, finishRun}
+use Rattle.lines.specs.Lines.{cap, outOf, restOf, lastOf, before, endFrom, part, keptRun, keptHeld, answeredRun, fits, bytesFrom, lineFrom, fedProgress, fedCarry, fedOut, hasLine, finishEnd, finishRun}
 use Rattle.lines.specs.Promises.{finishText}
 use Rattle.lines.specs.declared.Progress.{Progress}
 use Rattle.lines.proofs.Laws.Ends.{end-after, end-within, before-found}
@@ -190,7 +190,7 @@ within-by false a b n h g = g
 pub finish-within : (carry : List ℕ) (held : ℕ) (out : List ℕ) (made : ℕ) → made + answerMax ≤ length out → finishEnd carry held out made ≤ length out
 unfolding finishEnd
 finish-within carry held out made room =
-    within-by (isUnfinished carry held) (respondEnd (take held carry) out made) made (length out)
+    within-by (hasLine carry held) (respondEnd (take held carry) out made) made (length out)
     (omega (arith, respond-answered (take held carry) out made room .within, respond-kept (take held carry) out made))
     (omega arith)
 

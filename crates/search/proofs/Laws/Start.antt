@@ -3,7 +3,6 @@
 --     Congruences    congruences-none  congruences-more     before row 0, and before the code's k + 1
 --                    congruences-few    at most one a row
 --     Rows           modulus-is         what the code reads in column n + 1 is the modulus
---                    upper-any          a row's cell does not hang on the number of B's rows
 --     Cells          upper-coef upper-modulus upper-zero             a row's cell, by its column
 --                    start-row start-one start-past start-off        the cell of a row, of the diagonal, past its end, off it
 --     Entered        from-none from-more         places filled from one on: none, and one more
@@ -66,10 +65,6 @@ module _ (n ma mb : ℕ) (a b : List ℤ) (i : ℕ) where
       let x : i * (n + 2) + (n + 1) ≡ i * (n + 2) + n + 1 = omega arith in
       let y : (i - ma) * (n + 2) + (n + 1) ≡ (i - ma) * (n + 2) + n + 1 = omega arith in
       ap₂ (λ (p q : ℕ). cond (ltb i ma) (at a p) (at b q)) x y
-
-  pub upper-any : (j : ℕ) → upperCell n (rowsOf n ma 0 a b) i j ≡ upperCell n (rowsOf n ma mb a b) i j
-  unfolding upperCell
-  upper-any j = refl
 
 -- Cells ----------------------------------------------------------------------------------------------------------------
 

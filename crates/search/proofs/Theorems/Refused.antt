@@ -4,7 +4,6 @@
 --     table-refused-is        the run has to be 864 long
 --     answered-well-formed    a problem that `search` does not refuse is well formed
 --
--- That refusal 8 is given exactly when the search ends as too large is the definition `numberOf` of specs/Answer.antt.
 -- Assumes nothing.
 use mathlib.Core.Path.{_≡_, refl, subst}
 use mathlib.Core.List.{List}

@@ -6,7 +6,6 @@ use borrow.Author.Needs.{needs}
 use Rattle.integers.proofs.Laws.Bits.{stored-is}
 use Rattle.search.specs.declared.Outcome.{Outcome}
 use Rattle.search.specs.declared.Outcome.the-variants.{Refuted}
-use Rattle.search.specs.declared.Answer.{Answer as Found}
 use Rattle.search.specs.declared.Reply.the-variants.{Answered}
 use Rattle.vayalittu.specs.Answers.{answerOf}
 use Rattle.vayalittu.specs.declared.Answer.{Answer}

@@ -5,8 +5,7 @@ use denote.Ref.{now}
 use borrow.Author.Needs.{needs}
 use Rattle.integers.proofs.Laws.Bits.{stored-is}
 use Rattle.checker.specs.Refutation.{refusal}
-use Rattle.checker.specs.Answer.{verdictOf}
-use Rattle.vayalittu.specs.Answers.{verdictNumber}
+use Rattle.checker.specs.Answer.{verdictOf, verdictNumber}
 use Rattle.vayalittu.proofs.vayalittu_check.Statement.{statement}
 use Rattle.vayalittu.proofs.vayalittu_check.Tie as tie
 
