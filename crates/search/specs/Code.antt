@@ -66,7 +66,8 @@ pub record Reducible (s : State) (first second : ℕ) : Type 0 where
   pub row : s .row < 36
   pub first-in : first < 24
   pub second-in : second < 24
-  pub some : natAbs (cell (s .cells) (s .row) first) ≡ 0 → ⊥
+  pub some : 0 < natAbs (cell (s .cells) (s .row) first)
+  pub less : natAbs (cell (s .cells) (s .row) first) ≤ natAbs (cell (s .cells) (s .row) second)
   pub steps : s .steps < lastCount
 
 pub record Backable (cells : List ℤ) (m i k : ℕ) (v : Vector) : Type 0 where

@@ -5,7 +5,7 @@ ghost use Prim.Native.Nat.{_+_, _*_, _-_, _<_, _≤_, _^_};
 ghost use lib.Dec.{eqb, ltb};
 ghost use lib.ListN.{getD, set};
 ghost use lib.IntN.{ℤ, pos, natAbs, negℤ, _-ℤ_, _*ℤ_};
-ghost use lib.Signed.{quotZ};
+ghost use lib.Signed.{quotZ, remZ};
 ghost use Rattle.integers.specs.Range.{within};
 ghost use Rattle.integers.specs.Gcd.{gcdℤ};
 ghost use Rattle.integers.specs.NonDivisor.{nonDivisor};
@@ -843,12 +843,21 @@ fn in_bound(x: i64) -> bool
     integers::within(268435456, x)
 }
 
-// The quotient of y by x, cut towards zero.
+// The quotient of a reduction, cut towards zero: x divides what y has beyond the remainder.
 fn quotient(y: i64, x: i64) -> i64
-    requires { ⌜ (natAbs y ≤ bound) × (natAbs x ≤ bound) × (natAbs x ≡ 0 → ⊥) ⌝ }
+    requires { ⌜ (natAbs y ≤ bound) × (0 < natAbs x) × (natAbs x ≤ natAbs y) ⌝ }
     ensures { λ r. ⌜ r ≡ quotient y x ⌝ }
 {
-    y / x
+    (y - remainder(y, x)) / x
+}
+
+// The remainder, which the reduction leaves of y: less than half of its magnitude.
+fn remainder(y: i64, x: i64) -> i64
+    requires { ⌜ (natAbs y ≤ bound) × (0 < natAbs x) × (natAbs x ≤ natAbs y) ⌝ }
+    ensures { λ r. ⌜ r ≡ remZ y x ⌝ }
+    ensures { λ r. ⌜ 2 * natAbs r < natAbs y ⌝ }
+{
+    y % x
 }
 
 fn divided(s: i64, g: i64) -> i64

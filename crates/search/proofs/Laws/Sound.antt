@@ -221,7 +221,8 @@ module _ (s : State) (h : Sound s) where
         row = let r = row-low in omega arith;
         first-in = first-in;
         second-in = omega arith;
-        some = λ e. let l = n .0 in omega arith;
+        some = n .0;
+        less = n .1;
         steps = few;
       }
 

@@ -3,7 +3,7 @@
 use mathlib.Core.Path.{_≡_, sym, _∙_, ap, ap₂, subst⁻¹, subst₂}
 use mathlib.Core.Bool.{Bool, true, false}
 use mathlib.Core.List.{List}
-use Prim.Native.Nat.{ℕ, _+_, _*_, _-_, _≤_}
+use Prim.Native.Nat.{ℕ, _+_, _*_, _-_, _<_, _≤_}
 use native.Mathlib.Omega.{arith}
 use borrow.Author.Needs.{needs}
 use borrow.Author.Tests.{eq-eqb, ne-eqb}
@@ -141,8 +141,8 @@ quotient-requires : tie.Need-quotient-requires
 quotient-requires c κs =
     let h = reducible (differ2 c) in (
       subst⁻¹ (λ (z : ℤ). natAbs z ≤ bound) (upper-is (c .before .before .before)) (h .bounded .place _),
-      subst⁻¹ (λ (z : ℤ). natAbs z ≤ bound) (lower-is c) (h .bounded .place _),
-      λ e. h .some (ap natAbs (sym (lower-is c)) ∙ e),
+      subst⁻¹ (λ (z : ℤ). 0 < natAbs z) (lower-is c) (h .some),
+      subst₂ (λ (x y : ℤ). natAbs x ≤ natAbs y) (sym (lower-is c)) (sym (upper-is (c .before .before .before))) (h .less),
     )
 
 subtraction-fits-requires : tie.Need-subtraction-fits-requires
