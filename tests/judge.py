@@ -2,93 +2,135 @@
 
     python3 tests/judge.py calls [SEED [COUNT]]      the library's calls, on any numbers and lengths; 2,000 problems
     python3 tests/judge.py lines [SEED [COUNT]]      text lines, whole and damaged, through `interp` and the library; 20,000 lines
+    python3 tests/judge.py pari [SEED [COUNT]]       the library's verdicts beside PARI's; 5,000 problems
     python3 tests/judge.py stored IN OUT             stored lines and their stored answers, without any program
 
-It needs what `rt check interp` and `rt staticlib vayalittu` build, and a C compiler to make a shared library of the static one;
-Python calls that. It ends with a nonzero status at the first disagreement, and shows the call or the line.
+It calls the library through tests/c/calls.c, which it compiles, and uses the `interp` and the static library that are built, or has them
+built. A disagreement is shown with its call or its line, and a crash of the library is one; the judge goes on after it, and ends
+with a nonzero status. The status is 77 where a tool is missing, which is then named.
 
-Three judges must agree with each answer:
+Four judges must agree with the answers:
   - the paper's steps, one by one (search_reference.py), and the paper's rules for a vector (reference.py): answers, step counts,
     vectors, points, facts, refusals, what every lent run then holds, and the table after every number of steps;
   - a Hermite normal form over unbounded integers (`Solutions`), which knows nothing of those steps: whether a point exists;
-  - the definitions themselves: a vector refutes, a point meets its rows, a fact holds at sampled points of A and at none of B.
+  - the definitions themselves: a vector refutes, a point meets its rows, a fact holds at sampled points of A and at none of B;
+  - PARI's `matsolvemod`, of which the project has not a line: whether a point exists.
 """
 
-import ctypes
 import os
 import random
+import resource
+import signal
 import subprocess
 import sys
-import tempfile
 
 import reference
 import search_reference
 
-HERE = os.path.dirname(os.path.abspath(__file__))
-ARCHIVE = os.path.join(HERE, '..', 'target', 'staticlib', 'libvayalittu.a')
+ROOT = os.path.dirname(os.path.dirname(os.path.abspath(__file__)))
 OUTCOMES = {1: 'refuted', 2: 'solved', 3: 'too large', 4: 'unfinished'}
-UNWRITTEN = -77                # what a lent run holds before a call
-PROGRAM = os.path.join(HERE, '..', 'target', 'bin', 'interp')
+UNWRITTEN = -77                # what a lent run of numbers holds before a call
 ANSWER_MAX = 346               # the longest answer to a line
 ALL_TABLES = 60                # up to so many steps, the table after each number of them is compared
+MOST_DISAGREEMENTS = 20        # after so many, the judge gives up
+
+
+# Disagreements
+
+class Disagreement(Exception):
+    pass
+
+
+def agree(found, expected, what, *call):
+    if found != expected:
+        raise Disagreement(f'{what}\n  call:     {call}\n  found:    {found}\n  expected: {expected}')
+
+
+class Report:
+    """Shows disagreements and counts them."""
+
+    def __init__(self):
+        self.count = 0
+
+    def judged(self, judge, *given):
+        """What a judge returns; None where it disagrees."""
+        try:
+            return judge(*given)
+        except Disagreement as disagreement:
+            print(f'disagreement: {disagreement}', file=sys.stderr)
+            self.count += 1
+            if self.count == MOST_DISAGREEMENTS:
+                sys.exit(f'{self.count} disagreements: given up')
 
 
 # The library
 
-class Answer(ctypes.Structure):
-    _fields_ = [('refusal', ctypes.c_uint32), ('outcome', ctypes.c_uint32), ('steps', ctypes.c_uint32), ('q', ctypes.c_int64)]
+def of_repository(*path):
+    return os.path.join(ROOT, *path)
 
 
-class Fact(ctypes.Structure):
-    _fields_ = [('refusal', ctypes.c_uint32), ('constant', ctypes.c_int64), ('modulus', ctypes.c_int64)]
+def needed(*command):
+    """What a command of the repository writes. A tool that it misses, and names, is missing here, too."""
+    ended = subprocess.run(command, stdout=subprocess.PIPE, text=True)
+    if ended.returncode != 0:
+        sys.exit(ended.returncode)
+    return ended.stdout.strip()
 
 
-def run_of(numbers):
-    """A lent run as C sees it: a pointer and a length."""
-    return (ctypes.c_int64 * max(1, len(numbers)))(*numbers)
+def lent(run):
+    """A run that is read, as an argument of a call."""
+    return ' '.join(map(str, [len(run), *run]))
+
+
+def held(*runs):
+    """What runs hold, as an answer shows it."""
+    return ' '.join('[' + ' '.join(map(str, run)) + ']' for run in runs)
 
 
 class Library:
+    """The compiled library. The program calls.c makes its calls; what it reads and writes is told there."""
+
     def __init__(self):
-        with tempfile.TemporaryDirectory() as folder:
-            shared = os.path.join(folder, 'libvayalittu.so')
-            subprocess.run(['cc', '-shared', '-o', shared, '-Wl,--whole-archive', ARCHIVE, '-Wl,--no-whole-archive'], check=True)
-            self.library = ctypes.CDLL(shared)
-        self.library.vayalittu_interpolant.restype = Fact
-        self.library.vayalittu_search.restype = Answer
+        needed(of_repository('tests', 'c', 'build'), 'tests/c/calls.c')
+        resource.setrlimit(resource.RLIMIT_CORE, (0, 0))
+        self.start()
+        self.see_guards()
 
-    @staticmethod
-    def problem(n, ma, mb, a, b):
-        size = ctypes.c_size_t
-        return size(n), size(ma), size(mb), run_of(a), size(len(a)), run_of(b), size(len(b))
+    def start(self):
+        program = [of_repository('machine', 'run'), of_repository('target', 'c', 'calls')]
+        self.program = subprocess.Popen(program, stdin=subprocess.PIPE, stdout=subprocess.PIPE, stderr=subprocess.PIPE, text=True)
 
-    def check(self, n, ma, mb, a, b, q, p):
-        return self.library.vayalittu_check(*self.problem(n, ma, mb, a, b), ctypes.c_int64(q), run_of(p), ctypes.c_size_t(len(p)))
+    def answers(self, call):
+        """The answers to a call, with the runs right before memory that may not be touched, and right after it."""
+        self.program.stdin.write(call + '\n')
+        self.program.stdin.flush()
+        lines = [self.program.stdout.readline() for _ in range(2)]
+        if not all(line.endswith('\n') for line in lines):
+            _, said = self.program.communicate()
+            status = self.program.returncode
+            self.start()
+            raise Disagreement(f'{signal.Signals(-status).name if status < 0 else said.strip()} in the call: {call}')
+        return [line[:-1] for line in lines]
 
-    def interpolant(self, n, ma, mb, a, b, q, p, length):
-        coefficients = run_of([UNWRITTEN] * length)
-        fact = self.library.vayalittu_interpolant(
-            *self.problem(n, ma, mb, a, b), ctypes.c_int64(q), run_of(p), ctypes.c_size_t(len(p)), coefficients, ctypes.c_size_t(length))
-        return fact.refusal, fact.constant, fact.modulus, list(coefficients)[:length]
+    def see_guards(self):
+        """A read right before a run and one right after it end the program, or the judge does."""
+        agree(self.answers('touch 3 1 2 3 2'), ['3 [1 2 3]'] * 2, 'a run is read')
+        for place in (-1, 3):
+            try:
+                self.answers(f'touch 3 1 2 3 {place}')
+            except Disagreement:
+                continue
+            sys.exit(f'runs are not guarded: a read at {place} of a run of 3 numbers went well')
 
-    def search(self, n, ma, mb, a, b, budget, vector_length, point_length):
-        vector, point = run_of([UNWRITTEN] * vector_length), run_of([UNWRITTEN] * point_length)
-        answer = self.library.vayalittu_search(
-            *self.problem(n, ma, mb, a, b), ctypes.c_uint32(budget),
-            vector, ctypes.c_size_t(vector_length), point, ctypes.c_size_t(point_length))
-        return (answer.refusal, answer.outcome, answer.steps, answer.q), list(vector)[:vector_length], list(point)[:point_length]
-
-    def table(self, n, ma, mb, a, b, budget, length=864):
-        cells = run_of([UNWRITTEN] * length)
-        refusal = self.library.vayalittu_table(*self.problem(n, ma, mb, a, b), ctypes.c_uint32(budget), cells, ctypes.c_size_t(length))
-        return refusal, list(cells)[:length]
+    def expect(self, answer, *words):
+        """Makes a call, and sees that it is answered so."""
+        call = ' '.join(map(str, words))
+        for found in self.answers(call):
+            agree(found, answer, words[0], call)
 
 
-    def respond(self, line, length=ANSWER_MAX):
-        out = ctypes.create_string_buffer(b'?' * length, length)
-        self.library.vayalittu_respond.restype = ctypes.c_size_t
-        end = self.library.vayalittu_respond(line, ctypes.c_size_t(len(line)), out, ctypes.c_size_t(length))
-        return end, out.raw
+def problem_words(n, ma, mb, a, b):
+    return f'{n} {ma} {mb} {lent(a)} {lent(b)}'
 
 
 # All solutions of a system, by a Hermite normal form
@@ -225,46 +267,39 @@ def random_problem(source):
 
 # Judging
 
-class Disagreement(Exception):
-    pass
-
-
-def agree(found, expected, what, *call):
-    if found != expected:
-        raise Disagreement(f'{what}\n  call:     {call}\n  library:  {found}\n  expected: {expected}')
-
-
 def judge_search(library, call, budget, vector_length, point_length):
     """The answer and both runs, against the paper's steps. Returns the reference's answer."""
+    *_, a, b = call
     vector, point = [UNWRITTEN] * vector_length, [UNWRITTEN] * point_length
     answer = search_reference.search(*call, budget, vector_length, point_length)
     if answer[0] == 'refused':
-        expected = (answer[1], 0, 0, 0)
+        expected = f'{answer[1]} 0 0 0'
     else:
         outcome, steps, q, numerators, place = answer
         number = {name: number for number, name in OUTCOMES.items()}[outcome]
-        expected = (8 if outcome == 'too large' else 0, number, steps, q if q is not None else 0)
+        expected = f'{8 if outcome == "too large" else 0} {number} {steps} {q or 0}'
         vector, point = numerators or vector, place or point
-    agree(library.search(*call, budget, vector_length, point_length), (expected, vector, point), 'search', *call, budget, vector_length, point_length)
+    library.expect(f'{expected} {held(a, b, vector, point)}', 'search', problem_words(*call), budget, vector_length, point_length)
     return answer
 
 
 def judge_table(library, call, budget, length=864):
+    *_, a, b = call
     refusal = search_reference.refusal(*call)
-    if refusal == 3 and length != 864:
-        refusal = 2
-    if refusal is None and length != 864:
+    if refusal != 1 and length != 864:
         refusal = 2
     cells = [UNWRITTEN] * length if refusal else search_reference.table_after(*call, budget)
-    agree(library.table(*call, budget, length), (refusal or 0, cells), 'table', *call, budget, length)
+    library.expect(f'{refusal or 0} {held(a, b, cells)}', 'table', problem_words(*call), budget, length)
 
 
 def judge_vector(library, call, q, p, length):
     """The verdict and the interpolant, against the paper's rules."""
-    agree(library.check(*call, q, p), reference.check(*call, q, p), 'check', *call, q, p)
+    *_, a, b = call
+    library.expect(f'{reference.check(*call, q, p)} {held(a, b, p)}', 'check', problem_words(*call), q, lent(p))
     answer = reference.interpolant(*call, q, p, length)
-    expected = (answer, 0, 0, [UNWRITTEN] * length) if isinstance(answer, int) else (0, answer[1], answer[2], answer[0])
-    agree(library.interpolant(*call, q, p, length), expected, 'interpolant', *call, q, p, length)
+    coefficients, constant, modulus = ([UNWRITTEN] * length, 0, 0) if isinstance(answer, int) else answer
+    refusal = answer if isinstance(answer, int) else 0
+    library.expect(f'{refusal} {constant} {modulus} {held(a, b, p, coefficients)}', 'interpolant', problem_words(*call), q, lent(p), length)
     return answer
 
 
@@ -379,30 +414,34 @@ def expected_answer(source, line, call, budget):
     return ''.join(text + '\n' for text in lines).encode()
 
 
-def judge_lines(library, seed, count):
-    lines, answers = [], []
-    for k in range(count):
-        source = random.Random(f'{seed} line {k}')
-        call = random_problem(source)
-        budget = source.choice([0, 1, 5, 20, 8076, 8076, 8076, 2 ** 32 - 1])
-        line = problem_line(call, budget)
-        if source.random() < 0.3:
-            line, call = damaged_line(source, line), None
-        answer = expected_answer(source, line, call, budget)
-        room = [ANSWER_MAX, ANSWER_MAX + 1, 1000][k % 3]
-        agree(library.respond(line, room), (len(answer), answer + b'?' * (room - len(answer))), 'respond', line)
-        agree(library.respond(line, ANSWER_MAX - 1), (0, b'?' * (ANSWER_MAX - 1)), 'respond without room', line)
-        lines.append(line)
-        answers.append(answer)
+def judge_line(library, source, room):
+    """One line, through the library. Returns it with its answer."""
+    call = random_problem(source)
+    budget = source.choice([0, 1, 5, 20, 8076, 8076, 8076, 2 ** 32 - 1])
+    line = problem_line(call, budget)
+    if source.random() < 0.3:
+        line, call = damaged_line(source, line), None
+    answer = expected_answer(source, line, call, budget)
+    written = answer + b'?' * (room - len(answer))
+    library.expect(f'{len(answer)} [{line.hex()}] [{written.hex()}]', 'respond', len(line), line.hex(), room)
+    unwritten = b'?' * (ANSWER_MAX - 1)
+    library.expect(f'0 [{line.hex()}] [{unwritten.hex()}]', 'respond', len(line), line.hex(), ANSWER_MAX - 1)
+    return line, answer
+
+
+def judge_interp(answered):
+    """Lines and their answers, through the program."""
     # a last line without its end counts if it has any character
-    while lines and lines[-1] == b'':
-        lines.pop(), answers.pop()
-    found = subprocess.run([PROGRAM], input=b'\n'.join(lines), stdout=subprocess.PIPE, check=True).stdout
-    for line, answer in zip(lines, answers):
+    while answered and answered[-1][0] == b'':
+        answered.pop()
+    given = b'\n'.join(line for line, _ in answered)
+    ended = subprocess.run([of_repository('run')], input=given, stdout=subprocess.PIPE)
+    agree(ended.returncode, 0, 'the status of interp')
+    found = ended.stdout
+    for line, answer in answered:
         agree(found[:len(answer)], answer, 'interp', line)
         found = found[len(answer):]
     agree(found, b'', 'interp writes more than the answers')
-    return f'{count} lines of seed {seed} agree'
 
 
 def judge_stored(in_path, out_path):
@@ -417,31 +456,89 @@ def judge_stored(in_path, out_path):
     return f'{len(lines)} stored lines agree'
 
 
-def judge_calls(library, seed, count):
-    outcomes = {}
+# PARI
+
+# 1 if a point meets all rows, else 0: `matsolvemod` answers such a point, a vector, or else the number 0
+PARI_EXISTS = 'exists(m,n,c,l,d)=type(matsolvemod(matrix(m,n,i,j,c[(i-1)*n+j]),l~,d~))!="t_INT";\n'
+
+
+def pari_verdicts(gp, calls):
+    """Whether a point exists, by PARI, for each problem."""
+    given = PARI_EXISTS
+    for n, _, _, a, b in calls:
+        rows = reference.rows_of(n, a + b)
+        coefficients, constants, moduli = [x for c, _, _ in rows for x in c], [d for _, d, _ in rows], [l for _, _, l in rows]
+        given += f'print(exists({len(rows)},{n},{coefficients},{moduli},{constants}))\n'
+    verdicts = subprocess.run([gp, '-q', '-f'], input=given, stdout=subprocess.PIPE, text=True).stdout.split()
+    agree(len(verdicts), len(calls), 'PARI answers each problem')
+    return [verdict == '1' for verdict in verdicts]
+
+
+def decided(library, call):
+    """Whether a point exists, by the library; None where it does not decide."""
+    n, ma, mb, _, _ = call
+    _, outcome, *_ = library.answers(f'search {problem_words(*call)} {search_reference.MOST_STEPS} {ma + mb} {n}')[0].split()
+    return {'refuted': False, 'solved': True}.get(OUTCOMES[int(outcome)])
+
+
+def random_decided(report, library, seed, count):
+    """Random problems that the library decides, each with its verdict. Those without a nonzero coefficient are left out: PARI answers 0
+    for them, whether or not a point exists."""
+    problems = []
     for k in range(count):
-        outcome = judge_problem(library, random.Random(f'{seed} {k}'))
+        call = random_problem(random.Random(f'{seed} pari {k}'))
+        n, _, _, a, b = call
+        if any(any(c) for c, _, _ in reference.rows_of(n, a + b)):
+            verdict = report.judged(decided, library, call)
+            if verdict is not None:
+                problems.append((call, verdict))
+    return problems
+
+
+# The modes
+
+def judge_calls(report, seed, count):
+    library, outcomes = Library(), {}
+    for k in range(count):
+        outcome = report.judged(judge_problem, library, random.Random(f'{seed} {k}'))
         outcomes[outcome] = outcomes.get(outcome, 0) + 1
-    told = ', '.join(f'{name} {number}' for name, number in sorted(outcomes.items()))
+    told = ', '.join(f'{name} {number}' for name, number in sorted(outcomes.items(), key=str))
     return f'{count} problems of seed {seed} agree: {told}'
 
 
-MODES = {'calls': (judge_calls, 2000), 'lines': (judge_lines, 20000)}
+def judge_lines(report, seed, count):
+    library, rooms = Library(), [ANSWER_MAX, ANSWER_MAX + 1, 1000]
+    answered = [report.judged(judge_line, library, random.Random(f'{seed} line {k}'), rooms[k % 3]) for k in range(count)]
+    report.judged(judge_interp, [pair for pair in answered if pair is not None])
+    return f'{count} lines of seed {seed} agree'
+
+
+def judge_pari(report, seed, count):
+    gp = needed(of_repository('machine', 'tools'), 'find', 'gp')
+    problems = random_decided(report, Library(), seed, count)
+    verdicts = report.judged(pari_verdicts, gp, [call for call, _ in problems]) or []
+    for (call, found), verdict in zip(problems, verdicts):
+        report.judged(agree, found, verdict, 'the verdict beside that of PARI', *call)
+    solved = sum(verdict for _, verdict in problems)
+    return f'{len(problems)} problems of seed {seed} agree with PARI: refuted {len(problems) - solved}, solved {solved}'
+
+
+MODES = {'calls': (judge_calls, 2000), 'lines': (judge_lines, 20000), 'pari': (judge_pari, 5000)}
 
 
 def main():
     mode, words = (sys.argv + [''])[1], sys.argv[2:]
-    try:
-        if mode == 'stored' and len(words) == 2:
-            print(judge_stored(*words))
-        elif mode in MODES and len(words) <= 2:
-            judge, count = MODES[mode]
-            seed, count = [int(word) for word in words] + [1, count][len(words):]
-            print(judge(Library(), seed, count))
-        else:
-            sys.exit(__doc__)
-    except Disagreement as disagreement:
-        sys.exit(f'disagreement: {disagreement}')
+    report = Report()
+    if mode == 'stored' and len(words) == 2:
+        told = report.judged(judge_stored, *words)
+    elif mode in MODES and len(words) <= 2:
+        judge, count = MODES[mode]
+        told = judge(report, *[int(word) for word in words] + [1, count][len(words):])
+    else:
+        sys.exit(__doc__)
+    if report.count > 0:
+        sys.exit(f'{report.count} disagreements')
+    print(told)
 
 
 if __name__ == '__main__':

@@ -1,19 +1,11 @@
-/* Calls every function of vayalittu.h on the paper's cases, on every refusal and on hostile numbers. Every run stands right before
- * a page that may not be touched, and then right after one, so that a read or a write outside a run ends the program. */
-#define _DEFAULT_SOURCE
-#include <stdio.h>
-#include <stdlib.h>
-#include <string.h>
-#include <sys/mman.h>
-#include <unistd.h>
-
+/* Calls every function of vayalittu.h on the paper's cases, on every refusal and on hostile numbers: with every run right before memory
+ * that may not be touched, and then right after it. */
+#include "edge.h"
 #include "vayalittu.h"
 
-#define UNWRITTEN (-77)
 #define LENGTH(array) (sizeof(array) / sizeof *(array))
 
 static int checks, failures;
-static int at_the_end; /* whether runs end at the end of their block, or begin at its beginning */
 
 static void expect(int holds, const char *what, int line)
 {
@@ -26,34 +18,7 @@ static void expect(int holds, const char *what, int line)
 
 #define EXPECT(what) expect(what, #what, __LINE__)
 
-/* ---- Runs at the edge of their memory */
-
-static void *edge(const void *bytes, size_t size)
-{
-    size_t page = (size_t)sysconf(_SC_PAGESIZE);
-    size_t room = (size + page - 1) / page * page;
-    char *block;
-    if (size == 0)
-        return NULL;
-    block = mmap(NULL, room + 2 * page, PROT_NONE, MAP_PRIVATE | MAP_ANONYMOUS, -1, 0);
-    if (block == MAP_FAILED || mprotect(block + page, room, PROT_READ | PROT_WRITE) != 0) {
-        perror("mmap");
-        exit(2);
-    }
-    block += page + (at_the_end ? room - size : 0);
-    memcpy(block, bytes, size);
-    return block;
-}
-
-static int64_t *unwritten(size_t length)
-{
-    int64_t *numbers = malloc((length + 1) * sizeof *numbers), *run;
-    for (size_t i = 0; i < length; i++)
-        numbers[i] = UNWRITTEN;
-    run = edge(numbers, length * sizeof *numbers);
-    free(numbers);
-    return run;
-}
+/* ---- Runs */
 
 static int holds(const int64_t *run, size_t length, const int64_t *numbers)
 {
@@ -253,6 +218,7 @@ int main(void)
         the_first_table();
         text_lines();
         refusals();
+        used = 0;
     }
     printf("C: %d checks, %d failed\n", checks, failures);
     return failures != 0;

@@ -1,0 +1,2 @@
+/* The example as C++, so that the header is. */
+#include "../../examples/interpolate.c"
