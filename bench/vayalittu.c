@@ -1,4 +1,5 @@
-/* Vayalittu's library: the search with its vector or point, with a refutation also its interpolant; and the check of a vector. */
+/* Vayalittu's library: the search with its vector or point, with a refutation also its interpolant; and the check of a vector. With the
+ * word `counts` it measures no time, and writes what the searches come to. */
 #include "driver.h"
 #include "vayalittu.h"
 
@@ -6,7 +7,6 @@
 
 static int64_t vectors[DISTINCT][12], denominators[DISTINCT], point[12], coeffs[12];
 static size_t refuted[DISTINCT], refuted_count;
-static unsigned long steps;
 
 static vayalittu_answer search(size_t k)
 {
@@ -21,7 +21,6 @@ static int interpolate(size_t k)
     const problem *p = &problems[k];
     size_t width = p->n + 2;
     vayalittu_answer answer = search(k);
-    steps += answer.steps;
     denominators[k] = answer.q;
     if (answer.outcome == VAYALITTU_SOLVED)
         return SOLVED;
@@ -54,17 +53,39 @@ static void collect_refuted(void)
             refuted[refuted_count++] = k;
 }
 
-int main(void)
+static void measure_times(const family *f)
 {
+    char checked[32];
+    measure("vayalittu", f->name, interpolate, 100);
+    collect_refuted();
+    snprintf(checked, sizeof checked, "check-%s", f->name);
+    measure("vayalittu", checked, check, 100);
+}
+
+static void write_counts(const family *f)
+{
+    unsigned outcomes[VAYALITTU_UNFINISHED + 1] = {0};
+    unsigned long steps = 0;
+    for (size_t k = 0; k < DISTINCT; k++) {
+        vayalittu_answer answer = search(k);
+        outcomes[answer.outcome]++;
+        steps += answer.steps;
+    }
+    unsigned solved = outcomes[VAYALITTU_SOLVED], refutations = outcomes[VAYALITTU_REFUTED], too_large = outcomes[VAYALITTU_TOO_LARGE];
+    printf("%-8s decided %u of %d (%.1f %%), refuted %u (%.1f %%), too large %u (%.1f %%), %.1f steps a problem\n", f->name,
+           solved + refutations, DISTINCT, (solved + refutations) * 100.0 / DISTINCT, refutations, refutations * 100.0 / DISTINCT,
+           too_large, too_large * 100.0 / DISTINCT, (double)steps / DISTINCT);
+}
+
+int main(int argc, char **argv)
+{
+    int counts = argc > 1 && strcmp(argv[1], "counts") == 0;
     for (size_t f = 0; f < 2; f++) {
-        char checked[32];
         make_problems(&families[f]);
-        steps = 0;
-        measure("vayalittu", families[f].name, interpolate, 100);
-        fprintf(stderr, "vayalittu %s: %.1f steps a problem\n", families[f].name, (double)steps / (100.0 * ROUNDS * DISTINCT));
-        collect_refuted();
-        snprintf(checked, sizeof checked, "check-%s", families[f].name);
-        measure("vayalittu", checked, check, 100);
+        if (counts)
+            write_counts(&families[f]);
+        else
+            measure_times(&families[f]);
     }
     return 0;
 }
