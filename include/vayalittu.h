@@ -1,5 +1,6 @@
 /* Vayalittu for C: looks for a vector that refutes two systems of integer equations and congruences together, checks one, and
- * turns it into an interpolant. `rt staticlib vayalittu` writes target/staticlib/libvayalittu.a; link it, and nothing else.
+ * turns it into an interpolant. `./build vayalittu` writes target/staticlib/libvayalittu.a; link it, and nothing else, into a program
+ * for x86-64.
  *
  * A problem is n variables (1 to 12), ma rows of side A and mb rows of side B (together 1 to 12). A row is n coefficients, a
  * constant and a modulus, which is 0 for an equation, so that a side has exactly ma * (n + 2) or mb * (n + 2) numbers.
