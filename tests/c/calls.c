@@ -222,7 +222,8 @@ static void touch(void)
 static const struct {
     int signal;
     const char *name;
-} crashes[] = {{SIGSEGV, "SIGSEGV\n"}, {SIGBUS, "SIGBUS\n"}, {SIGFPE, "SIGFPE\n"}, {SIGILL, "SIGILL\n"}, {SIGABRT, "SIGABRT\n"}, {SIGALRM, "no return\n"}};
+} crashes[] = {{SIGSEGV, "SIGSEGV\n"}, {SIGBUS, "SIGBUS\n"},   {SIGFPE, "SIGFPE\n"},
+               {SIGILL, "SIGILL\n"},   {SIGABRT, "SIGABRT\n"}, {SIGALRM, "no return\n"}};
 
 #define CRASHES (sizeof crashes / sizeof *crashes)
 
