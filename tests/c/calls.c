@@ -47,14 +47,10 @@ static uint64_t count(void)
     return number;
 }
 
+/* A minus is read too, and negates as an unsigned number is negated. */
 static int64_t number(void)
 {
-    char *end;
-    int64_t number = strtoll(rest, &end, 10);
-    if (end == rest)
-        malformed("no number");
-    rest = end;
-    return number;
+    return (int64_t)count();
 }
 
 typedef struct {
@@ -62,19 +58,18 @@ typedef struct {
     size_t length;
 } run;
 
-static run read_run(void)
-{
-    run r = {NULL, count()};
-    r.numbers = unwritten(r.length);
-    for (size_t i = 0; i < r.length; i++)
-        r.numbers[i] = number();
-    return r;
-}
-
 static run written_run(void)
 {
     run r = {NULL, count()};
     r.numbers = unwritten(r.length);
+    return r;
+}
+
+static run read_run(void)
+{
+    run r = written_run();
+    for (size_t i = 0; i < r.length; i++)
+        r.numbers[i] = number();
     return r;
 }
 
