@@ -9,7 +9,7 @@ It calls the library through tests/c/calls.c, which it compiles, and uses the `i
 built. A disagreement is shown with its call or its line, and a crash of the library is one; the judge goes on after it, and ends
 with a nonzero status. The status is 77 where a tool is missing, which is then named.
 
-Four judges must agree with the answers:
+Four judges must agree with the answers, the last in the mode `pari` alone:
   - the paper's steps, one by one (search_reference.py), and the paper's rules for a vector (reference.py): answers, step counts,
     vectors, points, facts, refusals, what every lent run then holds, and the table after every number of steps;
   - a Hermite normal form over unbounded integers (`Solutions`), which knows nothing of those steps: whether a point exists;
@@ -27,7 +27,7 @@ import search_reference
 
 ROOT = os.path.dirname(os.path.dirname(os.path.abspath(__file__)))
 OUTCOMES = {1: 'refuted', 2: 'solved', 3: 'too large', 4: 'unfinished'}
-UNWRITTEN = -77                # what a lent run of numbers holds before a call
+UNWRITTEN = -77                # what a lent run of numbers holds before a call, as in c/edge.h
 ANSWER_MAX = 346               # the longest answer to a line
 ALL_TABLES = 60                # up to so many steps, the table after each number of them is compared
 MOST_DISAGREEMENTS = 20        # after so many, the judge gives up
@@ -99,8 +99,11 @@ class Library:
 
     def answers(self, call):
         """The answers to a call, with the runs right before memory that may not be touched, and right after it."""
-        self.program.stdin.write(call + '\n')
-        self.program.stdin.flush()
+        try:
+            self.program.stdin.write(call + '\n')
+            self.program.stdin.flush()
+        except BrokenPipeError:
+            pass
         lines = [self.program.stdout.readline() for _ in range(2)]
         if not all(line.endswith('\n') for line in lines):
             _, said = self.program.communicate()

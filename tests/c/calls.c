@@ -256,7 +256,7 @@ static void make_call(char *line)
             alarm(SECONDS);
             calls[i].make();
             alarm(0);
-            if (rest[strspn(rest, " \n")] != 0)
+            if (*rest != 0)
                 malformed("more than the call's arguments");
             return;
         }
@@ -269,6 +269,7 @@ int main(void)
     size_t room = 0;
     catch_crashes();
     while (getline(&line, &room, stdin) > 0) {
+        line[strcspn(line, "\n")] = 0;
         for (at_the_end = 1; at_the_end >= 0; at_the_end--) {
             make_call(line);
             putchar('\n');
