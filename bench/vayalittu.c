@@ -1,5 +1,5 @@
-/* Vayalittu's library: the search with its vector or point, with a refutation also its interpolant; and the check of a vector. With the
- * word `counts` it measures no time, and writes what the searches come to. */
+/* Vayalittu's library: the search with its vector or point, with a refutation also its interpolant; and the judgement of a given vector.
+ * With the word `counts` it measures no time, and writes what the searches come to. */
 #include "driver.h"
 #include "vayalittu.h"
 
@@ -16,33 +16,28 @@ static vayalittu_answer search(size_t k)
                             p->n);
 }
 
-static int interpolate(size_t k)
+static int judge(size_t k)
 {
     const problem *p = &problems[k];
     size_t width = p->n + 2;
+    vayalittu_fact fact = vayalittu_judge(p->n, p->ma, p->mb, p->a, p->ma * width, p->b, p->mb * width, denominators[k], vectors[k],
+                                          p->ma + p->mb, coeffs, p->n);
+    return fact.refusal == 0 ? REFUTED : UNDECIDED;
+}
+
+static int interpolate(size_t k)
+{
     vayalittu_answer answer = search(k);
     denominators[k] = answer.q;
     if (answer.outcome == VAYALITTU_SOLVED)
         return SOLVED;
-    if (answer.outcome != VAYALITTU_REFUTED)
-        return UNDECIDED;
-    return vayalittu_interpolant(p->n, p->ma, p->mb, p->a, p->ma * width, p->b, p->mb * width, answer.q, vectors[k], p->ma + p->mb,
-                                 coeffs, p->n)
-                       .refusal == 0
-               ? REFUTED
-               : UNDECIDED;
+    return answer.outcome == VAYALITTU_REFUTED ? judge(k) : UNDECIDED;
 }
 
-/* The check of one vector, that of a refuted problem. */
-static int check(size_t k)
+/* Of one vector, that of a refuted problem. */
+static int judge_refuted(size_t k)
 {
-    size_t i = refuted[k % refuted_count];
-    const problem *p = &problems[i];
-    size_t width = p->n + 2;
-    return vayalittu_check(p->n, p->ma, p->mb, p->a, p->ma * width, p->b, p->mb * width, denominators[i], vectors[i],
-                           p->ma + p->mb) == 0
-               ? REFUTED
-               : UNDECIDED;
+    return judge(refuted[k % refuted_count]);
 }
 
 static void collect_refuted(void)
@@ -55,11 +50,11 @@ static void collect_refuted(void)
 
 static void measure_times(const family *f)
 {
-    char checked[32];
+    char judged[32];
     measure("vayalittu", f->name, interpolate, 100);
     collect_refuted();
-    snprintf(checked, sizeof checked, "check-%s", f->name);
-    measure("vayalittu", checked, check, 100);
+    snprintf(judged, sizeof judged, "judge-%s", f->name);
+    measure("vayalittu", judged, judge_refuted, 100);
 }
 
 static void write_counts(const family *f)

@@ -1,4 +1,4 @@
-/* A worked example: A says that x is even, B that it is odd. Searches for a vector that refutes both together, has it checked, and
+/* A worked example: A says that x is even, B that it is odd. Searches for a vector that refutes both together, has it judged, and
  * prints the fact that A implies and B excludes.
  *
  *     cc -Iinclude examples/interpolate.c target/staticlib/libvayalittu.a && ./a.out */
@@ -28,9 +28,9 @@ int main(void)
     printf("refuted in %" PRIu32 " steps by (%" PRId64 ", %" PRId64 ")/%" PRId64 "\n", answer.steps, vector[0], vector[1], answer.q);
 
     /* The checker trusts nobody, so a vector from any other program can be given to it. */
-    if (vayalittu_check(3, 1, 1, a, 5, b, 5, answer.q, vector, 2) != 0)
+    fact = vayalittu_judge(3, 1, 1, a, 5, b, 5, answer.q, vector, 2, coeffs, 3);
+    if (fact.refusal != 0)
         return 1;
-    fact = vayalittu_interpolant(3, 1, 1, a, 5, b, 5, answer.q, vector, 2, coeffs, 3);
     printf("A implies, and B excludes: %" PRId64 "x + %" PRId64 "y + %" PRId64 "z = %" PRId64 " (mod %" PRId64 ")\n", coeffs[0], coeffs[1],
            coeffs[2], fact.constant, fact.modulus);
     return 0;

@@ -1,5 +1,5 @@
-/* Vayalittu for C: looks for a vector that refutes two systems of integer equations and congruences together, checks one, and
- * turns it into an interpolant. `./build vayalittu` writes target/staticlib/libvayalittu.a; link it, and nothing else, into a program
+/* Vayalittu for C: looks for a vector that refutes two systems of integer equations and congruences together, and judges one:
+ * whether it refutes, and its interpolant. `./build vayalittu` writes target/staticlib/libvayalittu.a; link it, and nothing else, into a program
  * for x86-64.
  *
  * A problem is n variables (1 to 12), ma rows of side A and mb rows of side B (together 1 to 12). A row is n coefficients, a
@@ -52,26 +52,26 @@ typedef struct {
     int64_t q;
 } vayalittu_answer;
 
-/* Constant and modulus of an interpolant; both 0 when refused. */
+/* What is answered of a vector.
+ *   refusal              0, or the number of the refusal
+ *   constant, modulus    those of its interpolant; both 0 when refused */
 typedef struct {
     uint32_t refusal;
     int64_t constant;
     int64_t modulus;
 } vayalittu_fact;
 
-/* Whether the vector with denominator q and numerators p (A's rows first) refutes both sides together: 0 if it does, else the
- * refusal 1, 3, 4, 5, 6 or 7. Where it is 0, no integer point meets both sides. */
-uint32_t vayalittu_check(size_t n, size_t ma, size_t mb, const int64_t *a, size_t a_len, const int64_t *b, size_t b_len,
-                         int64_t q, const int64_t *p, size_t p_len);
-
-/* The interpolant of such a vector, in normal form: coefficients are written, constant and modulus are answered. The fact is
- * coefficients * x = constant, modulo the modulus unless that is 0. Every integer point of A meets it, none of B does, and only
- * variables that occur in both sides have a coefficient other than 0. TRUE is all zeros; FALSE is all zeros with constant 1; both have
- * modulus 0. Otherwise the modulus is 0 and the first nonzero coefficient is positive, or it is 2 or more and all numbers lie in
- * 0..modulus - 1. Refusals 1 to 7; `coeffs` is then as it was. */
-vayalittu_fact vayalittu_interpolant(size_t n, size_t ma, size_t mb, const int64_t *a, size_t a_len, const int64_t *b,
-                                     size_t b_len, int64_t q, const int64_t *p, size_t p_len, int64_t *coeffs,
-                                     size_t coeffs_len);
+/* Judges the vector with denominator q and numerators p (A's rows first). The verdict is the refusal: 0 if the vector refutes both
+ * sides together, so that no integer point meets both, else 1 to 7. Who wants the verdict alone looks at nothing else; `coeffs` is n
+ * numbers all the same.
+ *
+ * Where the refusal is 0, the vector's interpolant is given in normal form: its coefficients are written into `coeffs`, its constant
+ * and modulus are answered. The fact is coefficients * x = constant, modulo the modulus unless that is 0. Every integer point of A
+ * meets it, none of B does, and only variables that occur in both sides have a coefficient other than 0. TRUE is all zeros; FALSE is
+ * all zeros with constant 1; both have modulus 0. Otherwise the modulus is 0 and the first nonzero coefficient is positive, or it is 2
+ * or more and all numbers lie in 0..modulus - 1. Where it is not 0, `coeffs` is as it was. */
+vayalittu_fact vayalittu_judge(size_t n, size_t ma, size_t mb, const int64_t *a, size_t a_len, const int64_t *b, size_t b_len,
+                               int64_t q, const int64_t *p, size_t p_len, int64_t *coeffs, size_t coeffs_len);
 
 /* Searches with a budget of steps. Refuted: the ma + mb numerators are written into `vector`, q is answered, and `point` is as it
  * was. Solved: n integers that meet all rows are written into `point`, and `vector` is as it was. Too large, unfinished, and

@@ -4,6 +4,7 @@
     python3 tests/judge.py lines [SEED [COUNT]]      text lines, whole and damaged, through `interp` and the library; 20,000 lines
     python3 tests/judge.py pari [SEED [COUNT]]       the library's verdicts beside PARI's; 5,000 problems
     python3 tests/judge.py stored IN OUT             stored lines and their stored answers, without any program
+    python3 tests/judge.py vectors FILE              stored vectors and their stored answers, through the library
 
 It calls the library through tests/c/calls.c, which it compiles, and uses the `interp` and the static library that are built, or has them
 built. A disagreement is shown with its call or its line, and a crash of the library is one; the judge goes on after it, and ends
@@ -17,6 +18,7 @@ Four judges must agree with the answers, the last in the mode `pari` alone:
   - PARI's `matsolvemod`, of which the project has not a line: whether a point exists.
 """
 
+import json
 import os
 import random
 import subprocess
@@ -292,15 +294,17 @@ def judge_table(library, call, budget, length=864):
     library.expect(f'{refusal or 0} {held(a, b, cells)}', 'table', problem_words(*call), budget, length)
 
 
-def judge_vector(library, call, q, p, length):
-    """The verdict and the interpolant, against the paper's rules."""
+def expect_judged(library, call, q, p, length, answer):
+    """A vector is answered so by the library, with a refusal or with a fact."""
     *_, a, b = call
-    library.expect(f'{reference.check(*call, q, p)} {held(a, b, p)}', 'check', problem_words(*call), q, lent(p))
-    answer = reference.interpolant(*call, q, p, length)
-    coefficients, constant, modulus = ([UNWRITTEN] * length, 0, 0) if isinstance(answer, int) else answer
-    refusal = answer if isinstance(answer, int) else 0
-    library.expect(f'{refusal} {constant} {modulus} {held(a, b, p, coefficients)}', 'interpolant', problem_words(*call), q, lent(p), length)
-    return answer
+    refusal, fact = (answer, ([UNWRITTEN] * length, 0, 0)) if isinstance(answer, int) else (0, answer)
+    coefficients, constant, modulus = fact
+    library.expect(f'{refusal} {constant} {modulus} {held(a, b, p, coefficients)}', 'judge', problem_words(*call), q, lent(p), length)
+
+
+def judge_vector(library, call, q, p, length):
+    """The refusal, or the interpolant, against the paper's rules."""
+    expect_judged(library, call, q, p, length, reference.judge(*call, q, p, length))
 
 
 def judge_fact(source, call, fact):
@@ -321,7 +325,7 @@ def judge_answer(source, call, answer):
     exists = Solutions(n, reference.rows_of(n, a + b)).exists
     if outcome == 'refuted':
         agree(exists, False, 'refuted, but a point exists', *call)
-        fact = reference.interpolant(*call, q, numerators, n)
+        fact = reference.judge(*call, q, numerators, n)
         agree(isinstance(fact, int), False, 'the vector of a search is accepted', *call)
         judge_fact(source, call, fact)
     if outcome == 'solved':
@@ -410,7 +414,7 @@ def expected_answer(source, line, call, budget):
         q = int.from_bytes(found[6:10], 'big', signed=True)
         p = [int.from_bytes(found[at:at + 4], 'big', signed=True) for at in range(10, len(found), 4)]
         cut = ma * (n + 2)
-        lines.append(interpolant_frame(n, reference.interpolant(n, ma, mb, numbers[:cut], numbers[cut:], q, p, n)))
+        lines.append(interpolant_frame(n, reference.judge(n, ma, mb, numbers[:cut], numbers[cut:], q, p, n)))
     return ''.join(text + '\n' for text in lines).encode()
 
 
@@ -454,6 +458,23 @@ def judge_stored(in_path, out_path):
         found = found[len(answer):]
     agree(found, b'', 'more is stored than the answers')
     return f'{len(lines)} stored lines agree'
+
+
+def judge_stored_vector(library, case):
+    call, (q, p, length) = [case[name] for name in ('n', 'ma', 'mb', 'a', 'b')], [case[name] for name in ('q', 'p', 'coeffs_len')]
+    told = case['answer']
+    answer = told['refusal'] or (told['coeffs'], told['constant'], told['modulus'])
+    agree(reference.judge(*call, q, p, length), answer, 'the reference', *call, q, p, length)
+    expect_judged(library, call, q, p, length, answer)
+
+
+def judge_vectors(report, path):
+    library = Library()
+    with open(path) as file:
+        cases = [json.loads(line) for line in file]
+    for case in cases:
+        report.judged(judge_stored_vector, library, case)
+    return f'{len(cases)} stored vectors agree'
 
 
 # PARI
@@ -531,6 +552,8 @@ def main():
     report = Report()
     if mode == 'stored' and len(words) == 2:
         told = report.judged(judge_stored, *words)
+    elif mode == 'vectors' and len(words) == 1:
+        told = report.judged(judge_vectors, report, *words)
     elif mode in MODES and len(words) <= 2:
         judge, count = MODES[mode]
         told = report.judged(judge, report, *[int(word) for word in words] + [1, count][len(words):])

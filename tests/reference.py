@@ -1,8 +1,7 @@
 """What the checker answers, written from the paper alone, to be compared with the proved code.
 
 meets(n, rows, X)         whether the point X meets every row; true for no rows
-check(.., q, p)           0 for a vector that refutes, or the refusal 1, 3, 4, 5, 6 or 7
-interpolant(.., length)   a refusal 1 to 7, or (coefficients, constant, modulus) in normal form
+judge(.., q, p, length)   for a vector that refutes (coefficients, constant, modulus) in normal form, else the refusal, 1 to 7
 
 The arguments are n, ma, mb, a, b, q, p as in the checker: sides are flat runs, a row n coefficients, d and l; `length` is
 that of the run lent for the coefficients. The indented sentences are the paper's. Run as a program, the file tests itself.
@@ -92,11 +91,6 @@ def refusal(n, ma, mb, a, b, q, p, length):
     return 0
 
 
-def check(n, ma, mb, a, b, q, p):
-    """The check has no result run, so it never gives 2."""
-    return refusal(n, ma, mb, a, b, q, p, n)
-
-
 def fact(n, ma, a, b, p):
     """    Over A's rows only, let S be the column sums of p × c, K the sum of p × d, and M the positive gcd of S at all A-local
     variables and of p × l at A's congruences (0 if all are 0, or there are none). The fact is: sum of S·x over shared
@@ -140,7 +134,7 @@ def normal_congruence(n, shared, K, M):
     return [s // g % modulus for s in shared], K // g % modulus, modulus
 
 
-def interpolant(n, ma, mb, a, b, q, p, length):
+def judge(n, ma, mb, a, b, q, p, length):
     number = refusal(n, ma, mb, a, b, q, p, length)
     if number != 0:
         return number
@@ -178,9 +172,7 @@ expect.count = 0
 
 
 def paper_case(name, call, answer):
-    refused = answer if isinstance(answer, int) else 0
-    expect(check(*call) == refused, f"check, case {name}")
-    expect(interpolant(*call, call[0]) == answer, f"interpolant, case {name}")
+    expect(judge(*call, call[0]) == answer, f"case {name}")
 
 
 def random_side(rng, n, m):
@@ -210,10 +202,10 @@ def is_normal(coefficients, constant, modulus):
             and all(0 <= x < modulus for x in coefficients + [constant]))
 
 
-def accepted_call(call):
-    """That the answer is an interpolant, on a box of points, and in normal form."""
+def accepted_call(call, fact):
+    """That the fact is an interpolant, on a box of points, and in normal form."""
     n, _, _, a, b = call[:5]
-    coefficients, constant, modulus = interpolant(*call, n)
+    coefficients, constant, modulus = fact
     row = coefficients + [constant, modulus]
     expect(is_normal(coefficients, constant, modulus), f"normal form of {call}")
     expect(all(coefficients[j] == 0 or occurs(n, a, j) and occurs(n, b, j) for j in range(n)), f"shared in {call}")
@@ -229,7 +221,8 @@ if __name__ == '__main__':
     accepted = 0
     while accepted < 3000:
         call = random_call(rng)
-        if check(*call) == 0:
+        answer = judge(*call, call[0])
+        if not isinstance(answer, int):
             accepted += 1
-            accepted_call(call)
+            accepted_call(call, answer)
     print(f"{expect.count} checks passed")

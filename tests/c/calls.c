@@ -1,11 +1,10 @@
 /* Makes the library's calls for another program: one a line of standard input, its name and then its arguments,
  *
- *     check        PROBLEM Q P
- *     interpolant  PROBLEM Q P COEFFS
- *     search       PROBLEM BUDGET VECTOR POINT
- *     table        PROBLEM BUDGET CELLS
- *     respond      LINE OUT
- *     touch        RUN PLACE
+ *     judge    PROBLEM Q P COEFFS
+ *     search   PROBLEM BUDGET VECTOR POINT
+ *     table    PROBLEM BUDGET CELLS
+ *     respond  LINE OUT
+ *     touch    RUN PLACE
  *
  * where PROBLEM is n, ma, mb, A, B. A run that is read is its length and its numbers, for LINE its bytes in hexadecimal; a run that is
  * written is its length alone, and holds UNWRITTEN or question marks before the call.
@@ -152,22 +151,12 @@ static void show_bytes(byte_run r)
 
 /* ---- The calls */
 
-static void check(void)
-{
-    problem p = read_problem();
-    int64_t q = number();
-    run v = read_run();
-    printf("%" PRIu32, vayalittu_check(PROBLEM(p), q, RUN(v)));
-    show_problem(p);
-    show(v);
-}
-
-static void interpolant(void)
+static void judge(void)
 {
     problem p = read_problem();
     int64_t q = number();
     run v = read_run(), coeffs = written_run();
-    vayalittu_fact fact = vayalittu_interpolant(PROBLEM(p), q, RUN(v), RUN(coeffs));
+    vayalittu_fact fact = vayalittu_judge(PROBLEM(p), q, RUN(v), RUN(coeffs));
     printf("%" PRIu32 " %" PRId64 " %" PRId64, fact.refusal, fact.constant, fact.modulus);
     show_problem(p);
     show(v);
@@ -244,7 +233,7 @@ static void catch_crashes(void)
 static const struct {
     const char *name;
     void (*make)(void);
-} calls[] = {{"check", check}, {"interpolant", interpolant}, {"search", search}, {"table", table}, {"respond", respond}, {"touch", touch}};
+} calls[] = {{"judge", judge}, {"search", search}, {"table", table}, {"respond", respond}, {"touch", touch}};
 
 static void make_call(char *line)
 {

@@ -52,21 +52,19 @@ static void accepted(const problem *p, int64_t q, const int64_t *numerators, con
     size_t m = p->ma + p->mb;
     const int64_t *vector = edge(numerators, m * sizeof *numerators);
     int64_t *coeffs = unwritten(p->n);
-    vayalittu_fact fact = vayalittu_interpolant(GIVEN(p), q, vector, m, coeffs, p->n);
-    EXPECT(vayalittu_check(GIVEN(p), q, vector, m) == 0);
+    vayalittu_fact fact = vayalittu_judge(GIVEN(p), q, vector, m, coeffs, p->n);
     EXPECT(fact.refusal == 0 && fact.constant == constant && fact.modulus == modulus);
     EXPECT(holds(coeffs, p->n, coefficients));
 }
 
-/* A vector that both functions refuse; the run is then untouched. */
+/* A vector that is refused; the run is then untouched. */
 static void refused(const problem *p, int64_t q, const int64_t *numerators, size_t m, uint32_t refusal)
 {
     const int64_t *vector = edge(numerators, m * sizeof *numerators);
-    int64_t *coeffs = unwritten(3);
-    vayalittu_fact fact = vayalittu_interpolant(GIVEN(p), q, vector, m, coeffs, 3);
-    EXPECT(vayalittu_check(GIVEN(p), q, vector, m) == refusal);
+    int64_t *coeffs = unwritten(p->n);
+    vayalittu_fact fact = vayalittu_judge(GIVEN(p), q, vector, m, coeffs, p->n);
     EXPECT(fact.refusal == refusal && fact.constant == 0 && fact.modulus == 0);
-    EXPECT(is_unwritten(coeffs, 3));
+    EXPECT(is_unwritten(coeffs, p->n));
 }
 
 /* ---- The paper's section "Checked by hand" */
@@ -173,8 +171,7 @@ static void text_lines(void)
 static void everywhere(const problem *p, int64_t q, const int64_t *vector, size_t m, uint32_t refusal)
 {
     int64_t *coeffs = unwritten(1), *v = unwritten(1), *x = unwritten(1), *cells = unwritten(VAYALITTU_CELLS);
-    EXPECT(vayalittu_check(GIVEN(p), q, vector, m) == refusal);
-    EXPECT(vayalittu_interpolant(GIVEN(p), q, vector, m, coeffs, 1).refusal == refusal);
+    EXPECT(vayalittu_judge(GIVEN(p), q, vector, m, coeffs, 1).refusal == refusal);
     EXPECT(vayalittu_search(GIVEN(p), 5, v, 1, x, 1).refusal == refusal);
     EXPECT(vayalittu_table(GIVEN(p), 5, cells, VAYALITTU_CELLS) == refusal);
     EXPECT(is_unwritten(coeffs, 1) && is_unwritten(v, 1) && is_unwritten(x, 1) && is_unwritten(cells, VAYALITTU_CELLS));
@@ -199,15 +196,16 @@ static void refusals(void)
     EXPECT(vayalittu_search(GIVEN(&ranges[0]), 5, v, 0, x, 1).refusal == 2);
     EXPECT(vayalittu_search(GIVEN(&right), 5, v, 1, NULL, 0).refusal == 2);
     EXPECT(vayalittu_table(GIVEN(&right), 5, cells, 863) == 2);
-    EXPECT(vayalittu_interpolant(GIVEN(&right), 2, p, 1, coeffs, 2).refusal == 2);
+    EXPECT(vayalittu_judge(GIVEN(&ranges[0]), 2, p, 1, coeffs, 2).refusal == 2);
+    EXPECT(vayalittu_judge(GIVEN(&right), 2, p, 1, NULL, 0).refusal == 2);
+    EXPECT(vayalittu_judge(GIVEN(&right), 2, NULL, 0, v, 1).refusal == 4);
     EXPECT(is_unwritten(v, 1) && is_unwritten(x, 1) && is_unwritten(cells, 863) && is_unwritten(coeffs, 2));
 
-    EXPECT(vayalittu_check(GIVEN(&right), 2, NULL, 0) == 4);
-    EXPECT(vayalittu_check(GIVEN(&right), 0, p, 1) == 4);
-    EXPECT(vayalittu_check(GIVEN(&right), 1000001, p, 1) == 4);
-    EXPECT(vayalittu_check(GIVEN(&right), INT64_MIN, p, 1) == 4);
-    EXPECT(vayalittu_check(GIVEN(&right), 2, (int64_t[]){INT64_MIN}, 1) == 5);
-    EXPECT(vayalittu_check(GIVEN(&right), 2, (int64_t[]){1000001}, 1) == 5);
+    refused(&right, 0, &one, 1, 4);
+    refused(&right, 1000001, &one, 1, 4);
+    refused(&right, INT64_MIN, &one, 1, 4);
+    refused(&right, 2, (int64_t[]){INT64_MIN}, 1, 5);
+    refused(&right, 2, (int64_t[]){1000001}, 1, 5);
 }
 
 int main(void)

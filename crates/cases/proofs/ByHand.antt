@@ -10,7 +10,6 @@ use Rattle.problem.specs.WellFormed.{wellFormed}
 use Rattle.problem.specs.Occurrence.{occurs}
 use Rattle.checker.specs.Refutation.{sumsRefusal, vectorRefusal, refusal}
 use Rattle.checker.specs.Fact.{modulusOf}
-use Rattle.checker.specs.Answer.{interpolantRefusal}
 use Rattle.checker.specs.NormalForm.{divided, orElse, firstNonzero, signBy, residue, positiveBy, equalityBy, unitBy, congruenceBy, normalBy, normalForm}
 use Rattle.search.specs.Table.{eachRow}
 use Rattle.search.specs.State.{congruences, upperCell, startCell, startTable, givenOf, start}
@@ -21,5 +20,5 @@ use Rattle.search.specs.Answer.{refusalOf}
 use Rattle.cases.specs.Cases.{answerTo, answersTo, cases, expected}
 
 pub by-hand : answersTo cases ≡ expected
-unfolding answersTo answerTo interpolantRefusal refusal vectorRefusal sumsRefusal occurs gcdFrom modulusOf normalForm normalBy equalityBy positiveBy congruenceBy unitBy residue signBy firstNonzero orElse divided refusalOf after nextBy stepOf stepBy closeOf closeBy refuteBy goOnBy placeBy placed passed closed lastBy solveBy pointOf placeOf residualOf swapBy negateBy reduceOf reduceBy tooLarge other otherwise least better vectorOf denominatorBy backFrom backBy backOne factorOf columnSum unitVector checked start givenOf startTable startCell upperCell congruences eachRow wellFormed tabulate allBelow anyBelow sum nonDivisor nonDivisorFrom gcdℤ gcdℕ euclid
+unfolding answersTo answerTo refusal vectorRefusal sumsRefusal occurs gcdFrom modulusOf normalForm normalBy equalityBy positiveBy congruenceBy unitBy residue signBy firstNonzero orElse divided refusalOf after nextBy stepOf stepBy closeOf closeBy refuteBy goOnBy placeBy placed passed closed lastBy solveBy pointOf placeOf residualOf swapBy negateBy reduceOf reduceBy tooLarge other otherwise least better vectorOf denominatorBy backFrom backBy backOne factorOf columnSum unitVector checked start givenOf startTable startCell upperCell congruences eachRow wellFormed tabulate allBelow anyBelow sum nonDivisor nonDivisorFrom gcdℤ gcdℕ euclid
 by-hand = refl

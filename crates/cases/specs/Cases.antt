@@ -2,8 +2,8 @@
 --
 --     Problem         as every call takes it
 --     Case            a problem with a vector for the checker, or with a budget for the search
---     Answers         what `check` and `interpolant` answer, and what the lent run then holds; or what `search` answers, and what
---                     its two lent runs then hold
+--     Answers         what `judge` answers, and what the lent run then holds; or what `search` answers, and what its two lent runs
+--                     then hold
 --     answerTo        that of a case, by the definitions of the contracts; the lent runs hold 7s before
 --     cases           the paper's cases, in its order; case 5 also with A and B exchanged, case 7 with its four vectors, case 8 with
 --                     the budgets 3, 4 and 5, case 9 with the budgets 1 and 2
@@ -14,12 +14,9 @@ use mathlib.Core.List.{List, [], _∷_}
 use Prim.Native.Nat.{ℕ, _+_}
 use lib.IntN.{ℤ, pos, negsuc}
 use Rattle.integers.specs.Run.{tabulate}
-use Rattle.checker.specs.Refutation.{refusal}
-use Rattle.checker.specs.Answer.{verdictOf, interpolantAnswer, interpolantRun}
-use Rattle.checker.specs.declared.Verdict.{Verdict}
-use Rattle.checker.specs.declared.Verdict.the-variants.{Accepted, Refused}
+use Rattle.checker.specs.Answer.{judgeAnswer, judgeRun}
 use Rattle.checker.specs.declared.Answer.{Answer}
-use Rattle.checker.specs.declared.Answer.the-variants.{Fact as Stated, Refused as Unstated}
+use Rattle.checker.specs.declared.Answer.the-variants.{Fact as Stated, Refused}
 use Rattle.search.specs.Answer.{searchReply, searchVector, searchPoint}
 use Rattle.search.specs.declared.Outcome.{Outcome}
 use Rattle.search.specs.declared.Outcome.the-variants.{Unfinished, TooLarge, Refuted}
@@ -34,11 +31,11 @@ pub record Problem : Type 0 where
   pub b : List ℤ
 
 pub data Case : Type 0 where
-  check : Problem → ℤ → List ℤ → Case
+  judge : Problem → ℤ → List ℤ → Case
   search : Problem → ℕ → Case
 
 pub data Answers : Type 0 where
-  checked : Verdict → Answer → List ℤ → Answers
+  judged : Answer → List ℤ → Answers
   searched : Reply → List ℤ → List ℤ → Answers
 
 -- a lent run
@@ -46,11 +43,10 @@ abbrev pub lent : ℕ → List ℤ
 lent k = tabulate k (λ j. pos 7)
 
 unfoldable pub answerTo : Case → Answers
-answerTo (check c q p) =
-    checked
-    (verdictOf (refusal (c .n) (c .ma) (c .mb) (c .a) (c .b) q p))
-    (interpolantAnswer (c .n) (c .ma) (c .mb) (c .a) (c .b) q p (lent (c .n)))
-    (interpolantRun (c .n) (c .ma) (c .mb) (c .a) (c .b) q p (lent (c .n)))
+answerTo (judge c q p) =
+    judged
+    (judgeAnswer (c .n) (c .ma) (c .mb) (c .a) (c .b) q p (lent (c .n)))
+    (judgeRun (c .n) (c .ma) (c .mb) (c .a) (c .b) q p (lent (c .n)))
 answerTo (search c budget) =
     searched
     (searchReply (c .n) (c .ma) (c .mb) (c .a) (c .b) budget (lent (c .ma + c .mb)) (lent (c .n)))
@@ -98,17 +94,17 @@ large = record { n = 2; ma = 2; mb = 0; a = pos 1 ∷ pos 0 ∷ pos 1000000 ∷ 
 
 abbrev pub cases : List Case
 cases =
-    check sums (pos 2) (pos 1 ∷ negsuc 0 ∷ pos 1 ∷ [])
-    ∷ check parity (pos 2) (pos 1 ∷ pos 1 ∷ [])
-    ∷ check eights (pos 8) (pos 2 ∷ negsuc 3 ∷ negsuc 0 ∷ [])
-    ∷ check mixed (pos 2) (pos 1 ∷ pos 1 ∷ negsuc 0 ∷ [])
-    ∷ check half (pos 2) (pos 1 ∷ [])
-    ∷ check otherHalf (pos 2) (pos 1 ∷ [])
-    ∷ check two (pos 2) (pos 1 ∷ negsuc 0 ∷ [])
-    ∷ check parity (pos 2) (pos 1 ∷ pos 0 ∷ [])
-    ∷ check parity (pos 2) (pos 2 ∷ pos 2 ∷ [])
-    ∷ check parity (pos 2) (pos 0 ∷ pos 0 ∷ [])
-    ∷ check parity (pos 1) (pos 1 ∷ pos 1 ∷ [])
+    judge sums (pos 2) (pos 1 ∷ negsuc 0 ∷ pos 1 ∷ [])
+    ∷ judge parity (pos 2) (pos 1 ∷ pos 1 ∷ [])
+    ∷ judge eights (pos 8) (pos 2 ∷ negsuc 3 ∷ negsuc 0 ∷ [])
+    ∷ judge mixed (pos 2) (pos 1 ∷ pos 1 ∷ negsuc 0 ∷ [])
+    ∷ judge half (pos 2) (pos 1 ∷ [])
+    ∷ judge otherHalf (pos 2) (pos 1 ∷ [])
+    ∷ judge two (pos 2) (pos 1 ∷ negsuc 0 ∷ [])
+    ∷ judge parity (pos 2) (pos 1 ∷ pos 0 ∷ [])
+    ∷ judge parity (pos 2) (pos 2 ∷ pos 2 ∷ [])
+    ∷ judge parity (pos 2) (pos 0 ∷ pos 0 ∷ [])
+    ∷ judge parity (pos 1) (pos 1 ∷ pos 1 ∷ [])
     ∷ search parity 3
     ∷ search parity 4
     ∷ search parity 5
@@ -117,11 +113,11 @@ cases =
     ∷ []
 
 abbrev pub fact : List ℤ → ℤ → ℤ → Answers
-fact coefficients constant modulus = checked Accepted (Stated constant modulus) coefficients
+fact coefficients constant modulus = judged (Stated constant modulus) coefficients
 
 -- of a problem over three variables; the lent run is left as it was
 abbrev pub refused : ℕ → Answers
-refused k = checked (Refused k) (Unstated k) (pos 7 ∷ pos 7 ∷ pos 7 ∷ [])
+refused k = judged (Refused k) (pos 7 ∷ pos 7 ∷ pos 7 ∷ [])
 
 abbrev pub found : ℕ → Outcome → List ℤ → List ℤ → Answers
 found steps outcome vector point = searched (Answered (record { steps = steps; outcome = outcome })) vector point

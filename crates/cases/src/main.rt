@@ -1,6 +1,5 @@
 // Calls the checker on the examples of the article, on the paper's cases 5 to 7, at the ends of the ranges, and for each
-// refusal. A line has the verdict of `check` and the answer of `interpolant`. The last lines are of searches, the paper's cases 8
-// and 9.
+// refusal. The last lines are of searches, the paper's cases 8 and 9.
 //
 // The variables x, y, z are x1, x2, x3. A row is its coefficients, its constant and its modulus. A comment above a call derives
 // its answer: S by variable over A's rows, then K and M, as the paper names them, and g, by which the normal form divides.
@@ -91,40 +90,7 @@ fn refused(number: u8) {
     io::print_decimal(1, number as u64);
 }
 
-fn verdict(n: usize, ma: usize, mb: usize, a: &[i64], b: &[i64], q: i64, p: &[i64]) {
-    let given = checker::check(n, ma, mb, a, b, q, p);
-    match given {
-        checker::Verdict::Accepted => {
-            io::write_all(1, b"accepted");
-        }
-        checker::Verdict::Refused(number) => {
-            refused(number);
-        }
-    }
-}
-
-fn answer(
-    n: usize,
-    ma: usize,
-    mb: usize,
-    a: &[i64],
-    b: &[i64],
-    q: i64,
-    p: &[i64],
-    coeffs: &mut [i64],
-) {
-    let given = checker::interpolant(n, ma, mb, a, b, q, p, coeffs);
-    match given {
-        checker::Answer::Fact(constant, modulus) => {
-            fact(coeffs, constant, modulus);
-        }
-        checker::Answer::Refused(number) => {
-            refused(number);
-        }
-    }
-}
-
-// A line with the verdict and the interpolant.
+// A line with the fact, or the refusal.
 fn line(
     name: &[u8],
     n: usize,
@@ -138,9 +104,15 @@ fn line(
 ) {
     io::write_all(1, name);
     io::write_all(1, b": ");
-    verdict(n, ma, mb, a, b, q, p);
-    io::write_all(1, b"; ");
-    answer(n, ma, mb, a, b, q, p, coeffs);
+    let given = checker::judge(n, ma, mb, a, b, q, p, coeffs);
+    match given {
+        checker::Answer::Fact(constant, modulus) => {
+            fact(coeffs, constant, modulus);
+        }
+        checker::Answer::Refused(number) => {
+            refused(number);
+        }
+    }
     io::write_all(1, b"\n");
 }
 
@@ -445,7 +417,7 @@ fn lengths() {
     halved(b"B one number long", &a, &long);
 }
 
-// Refusal 2, which `check` has no run for, and what a refusal leaves in the run.
+// Refusal 2, and what a refusal leaves in the run.
 fn result_runs() {
     let a = [1, -2, 0, 0, 0];
     let b = [1, 0, -2, 1, 0];
@@ -524,7 +496,7 @@ fn constants() {
     parity(b"case 7, q 1", 1, &half);
 }
 
-// Each of these has two refusals, and is given the earlier. `check` has no run, so it passes 2 over.
+// Each of these has two refusals, and is given the earlier.
 fn order_of_runs() {
     let b = [1, 0, -2, 1, 0];
     let p = [1, 1];

@@ -1,13 +1,13 @@
 -- What the theorems of proofs/Theorems say of the definitions of this folder.
 --
 --     Accepted              the problem is well formed, the vector is in range, and it refutes all rows
---     Says k                the case of `check`'s refusal k; that of 0 is Accepted
---     InterpolantSays k     the case of `interpolant`'s refusal k, where the lent run is `long` long
+--     Says long k           the case of refusal k, where the run for the coefficients is `long` long; that of 0 is Accepted, and the run
+--                           n long
 --     DividesSums           q divides every column sum and every p × l
 --     Same n f g            f and g hold at the same points
 --     IsNormal n f          f is TRUE, or FALSE, or an equality without common factor and with its first nonzero coefficient
 --                           positive, or a congruence modulo 2 or more without common factor, all else in 0..modulus − 1
---     Demand                demand 2 of one call of `interpolant` whose vector is accepted
+--     Demand                demand 2 of one call of `judge` whose vector is accepted
 --     Completes             integers at the A-local variables, and one for each row, that make A's weighted row true
 use mathlib.Core.Path.{_≡_}
 use mathlib.Core.List.{List}
@@ -26,7 +26,7 @@ use Rattle.problem.specs.Occurrence.{shared, localA}
 use Rattle.checker.specs.Refutation.{columnSum, constantSum, Refutes, numerator, Vector, Numerators}
 use Rattle.checker.specs.Fact.{Fact, Holds}
 use Rattle.checker.specs.NormalForm.{firstNonzero}
-use Rattle.checker.specs.Answer.{interpolantFor, interpolantAnswer, interpolantRun}
+use Rattle.checker.specs.Answer.{interpolantFor, judgeAnswer, judgeRun}
 use Rattle.checker.specs.declared.Answer.the-variants.{Fact as Stated}
 
 pub record DividesSums (n : ℕ) (R : Rows) (q : ℤ) (p : ℕ → ℤ) : Type 0 where
@@ -43,19 +43,15 @@ module _ (n ma mb : ℕ) (a b : List ℤ) (q : ℤ) (p : List ℤ) where
     pub numerators : Numerators (ma + mb) (numerator p)
     pub refutes : Refutes n R q (numerator p)
 
-  pub data Says : ℕ → Type 0 where
-    says-1 : (Shape n ma mb a b → ⊥) → Says 1
-    says-3 : Shape n ma mb a b → (WellFormed n ma mb a b → ⊥) → Says 3
-    says-4 : WellFormed n ma mb a b → (Vector (ma + mb) q p → ⊥) → Says 4
-    says-5 : WellFormed n ma mb a b → Vector (ma + mb) q p → (Numerators (ma + mb) (numerator p) → ⊥) → Says 5
-    says-6 : WellFormed n ma mb a b → Vector (ma + mb) q p → Numerators (ma + mb) (numerator p) → (DividesSums n R q (numerator p) → ⊥) → Says 6
-    says-7 : WellFormed n ma mb a b → Vector (ma + mb) q p → Numerators (ma + mb) (numerator p) → DividesSums n R q (numerator p) → q ∣ℤ constantSum R (numerator p) → Says 7
-    says-0 : Accepted → Says 0
-
-  pub data InterpolantSays (long : ℕ) : ℕ → Type 0 where
-    shape-fails : (Shape n ma mb a b → ⊥) → InterpolantSays long 1
-    run-fails : Shape n ma mb a b → (long ≡ n → ⊥) → InterpolantSays long 2
-    as-check : {k : ℕ} → Shape n ma mb a b → long ≡ n → Says k → InterpolantSays long k
+  pub data Says (long : ℕ) : ℕ → Type 0 where
+    says-1 : (Shape n ma mb a b → ⊥) → Says long 1
+    says-2 : Shape n ma mb a b → (long ≡ n → ⊥) → Says long 2
+    says-3 : Shape n ma mb a b → long ≡ n → (WellFormed n ma mb a b → ⊥) → Says long 3
+    says-4 : WellFormed n ma mb a b → long ≡ n → (Vector (ma + mb) q p → ⊥) → Says long 4
+    says-5 : WellFormed n ma mb a b → long ≡ n → Vector (ma + mb) q p → (Numerators (ma + mb) (numerator p) → ⊥) → Says long 5
+    says-6 : WellFormed n ma mb a b → long ≡ n → Vector (ma + mb) q p → Numerators (ma + mb) (numerator p) → (DividesSums n R q (numerator p) → ⊥) → Says long 6
+    says-7 : WellFormed n ma mb a b → long ≡ n → Vector (ma + mb) q p → Numerators (ma + mb) (numerator p) → DividesSums n R q (numerator p) → q ∣ℤ constantSum R (numerator p) → Says long 7
+    says-0 : Accepted → long ≡ n → Says long 0
 
 pub record Same (n : ℕ) (f g : Fact) : Type 0 where
   pub to : (X : ℕ → ℤ) → Holds n f X → Holds n g X
@@ -92,8 +88,8 @@ module _ (n ma mb : ℕ) (a b : List ℤ) (q : ℤ) (p entry : List ℤ) where
     pub accepted : Accepted n ma mb a b q p
     pub no-point : (X : ℕ → ℤ) → Meets n A X → Meets n B X → ⊥
     -- the call answers the interpolant's constant and modulus, and its run then holds the coefficients
-    pub answered : interpolantAnswer n ma mb a b q p entry ≡ Stated (fact .const) (fact .modulus)
-    pub written : interpolantRun n ma mb a b q p entry ≡ tabulate n (fact .coef)
+    pub answered : judgeAnswer n ma mb a b q p entry ≡ Stated (fact .const) (fact .modulus)
+    pub written : judgeRun n ma mb a b q p entry ≡ tabulate n (fact .coef)
     -- in normal form
     pub normal : IsNormal n fact
     -- every integer point of A meets it, none of B does

@@ -7,7 +7,7 @@
 --     numerator p i        numerator i of a lent vector
 --     isVector, areNumerators, dividesSums     the tests behind refusals 4, 5 and 6
 --     unless t k rest      k unless the test t holds, else the rest: refusals in their order
---     refusal              0 if the vector is accepted, else the first of 1, 3, 4, 5, 6, 7 whose case it is
+--     refusal              the first of 1 to 7 whose case it is, 0 if there is none; the run for the coefficients is `long` long
 use mathlib.Core.Path.{_≡_}
 use mathlib.Core.List.{List}
 use mathlib.Core.Bool.{Bool, true, false, not, _&&_}
@@ -69,6 +69,7 @@ sumsRefusal n R q p = unless (dividesSums n R q p) 6 (unless (not (divides q (co
 unfoldable pub vectorRefusal : ℕ → Rows → ℤ → List ℤ → ℕ
 vectorRefusal n R q p = unless (isVector (R .m) q p) 4 (unless (areNumerators (R .m) (numerator p)) 5 (sumsRefusal n R q (numerator p)))
 
--- "1: n, mA, mB, m or a side's length is not as above. 3: a row's number is out of its range."
-unfoldable pub refusal : ℕ → ℕ → ℕ → List ℤ → List ℤ → ℤ → List ℤ → ℕ
-refusal n ma mb a b q p = unless (shape n ma mb a b) 1 (unless (wellFormed n ma mb a b) 3 (vectorRefusal n (rowsOf n ma mb a b) q p))
+-- "1: n, mA, mB, m or a side's length is not as above. 2: a result run is not exactly its length [coefficients n]. 3: a row's number is
+-- out of its range."
+unfoldable pub refusal : ℕ → ℕ → ℕ → List ℤ → List ℤ → ℤ → List ℤ → ℕ → ℕ
+refusal n ma mb a b q p long = unless (shape n ma mb a b) 1 (unless (eqb long n) 2 (unless (wellFormed n ma mb a b) 3 (vectorRefusal n (rowsOf n ma mb a b) q p)))

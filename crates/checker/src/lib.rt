@@ -16,35 +16,18 @@ ghost use Rattle.problem.specs.WellFormed.{million, WellFormed};
 ghost use Rattle.problem.specs.Occurrence.{occurs};
 ghost use Rattle.checker.specs.Refutation.{columnSum, numerator, isVector, areNumerators, sumsRefusal, vectorRefusal, refusal};
 ghost use Rattle.checker.specs.NormalForm.{firstNonzero, residue};
-ghost use Rattle.checker.specs.Answer.{verdictOf, interpolantFor, answerOf, interpolantAnswer, interpolantRun};
+ghost use Rattle.checker.specs.Answer.{interpolantFor, answerOf, judgeAnswer, judgeRun};
 ghost use Rattle.checker.specs.Code.{numbers, weights, Weighted, Summable, Weighable, localSum, sharedSum, largest, Small, factOf, madePositive, finished, shortForm, changed, Allowed};
 
-// What `check` answers: accepted, or the paper's number of the refusal.
-pub enum Verdict {
-    Accepted,
-    Refused(u8),
-}
-
-// What `interpolant` answers: constant and modulus of the fact, or the paper's number of the refusal.
+// What `judge` answers: constant and modulus of the fact, or the paper's number of the refusal.
 pub enum Answer {
     Fact(i64, i64),
     Refused(u8),
 }
 
-// Whether q and the numerators p refute the two sides together.
-pub fn check(n: usize, ma: usize, mb: usize, a: &[i64], b: &[i64], q: i64, p: &[i64]) -> Verdict
-    ensures { λ r. ⌜ r ≡ verdictOf (refusal n ma mb (now (a .entry)) (now (b .entry)) q (now (p .entry))) ⌝ }
-{
-    let number = refusal(n, ma, mb, a, b, q, p);
-    if number == 0 {
-        Verdict::Accepted
-    } else {
-        Verdict::Refused(number)
-    }
-}
-
-// Writes the interpolant's coefficients, and answers its constant and its modulus. A refusal leaves the run as it was.
-pub fn interpolant(
+// If q and the numerators p refute the two sides together, writes the interpolant's coefficients, and answers its constant and its
+// modulus. A refusal leaves the run as it was.
+pub fn judge(
     n: usize,
     ma: usize,
     mb: usize,
@@ -54,16 +37,10 @@ pub fn interpolant(
     p: &[i64],
     coeffs: &mut [i64],
 ) -> Answer
-    ensures { λ r. ⌜ r ≡ interpolantAnswer n ma mb (now (a .entry)) (now (b .entry)) q (now (p .entry)) (now (coeffs .entry)) ⌝ }
-    ensures { λ r. ⌜ now (coeffs .exit) ≡ interpolantRun n ma mb (now (a .entry)) (now (b .entry)) q (now (p .entry)) (now (coeffs .entry)) ⌝ }
+    ensures { λ r. ⌜ r ≡ judgeAnswer n ma mb (now (a .entry)) (now (b .entry)) q (now (p .entry)) (now (coeffs .entry)) ⌝ }
+    ensures { λ r. ⌜ now (coeffs .exit) ≡ judgeRun n ma mb (now (a .entry)) (now (b .entry)) q (now (p .entry)) (now (coeffs .entry)) ⌝ }
 {
-    let number = refusal(n, ma, mb, a, b, q, p);
-    if number == 1 {
-        return Answer::Refused(1);
-    }
-    if coeffs.len() != n {
-        return Answer::Refused(2);
-    }
+    let number = refusal(n, ma, mb, a, b, q, p, coeffs.len());
     if number != 0 {
         return Answer::Refused(number);
     }
@@ -72,12 +49,24 @@ pub fn interpolant(
 
 // ---- A refutation
 
-// The first refusal of a problem and a vector, 0 if the vector is accepted.
-fn refusal(n: usize, ma: usize, mb: usize, a: &[i64], b: &[i64], q: i64, p: &[i64]) -> u8
-    ensures { λ r. ⌜ r ≡ refusal n ma mb (now (a .entry)) (now (b .entry)) q (now (p .entry)) ⌝ }
+// The first refusal of a problem, of a run lent for the coefficients that is `long` long, and of a vector; 0 if there is none.
+fn refusal(
+    n: usize,
+    ma: usize,
+    mb: usize,
+    a: &[i64],
+    b: &[i64],
+    q: i64,
+    p: &[i64],
+    long: usize,
+) -> u8
+    ensures { λ r. ⌜ r ≡ refusal n ma mb (now (a .entry)) (now (b .entry)) q (now (p .entry)) long ⌝ }
 {
     if !problem::shape(n, ma, mb, a, b) {
         return 1;
+    }
+    if long != n {
+        return 2;
     }
     if !problem::well_formed(n, ma, mb, a, b) {
         return 3;

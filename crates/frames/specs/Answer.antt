@@ -18,7 +18,7 @@ use lib.Dec.{leb}
 use lib.ListN.{length, replicate}
 use lib.Seq.{sets}
 use lib.IntN.{ℤ, pos}
-use Rattle.checker.specs.Answer.{interpolantAnswer, interpolantRun}
+use Rattle.checker.specs.Answer.{judgeAnswer, judgeRun}
 use Rattle.checker.specs.declared.Answer.{Answer}
 use Rattle.checker.specs.declared.Answer.the-variants.{Fact, Refused as Unstated}
 use Rattle.search.specs.Answer.{searchReply, searchVector, searchPoint}
@@ -60,7 +60,7 @@ factAnswer (Unstated number) n m steps q vector coeffs = refusalFrame number 0
 
 abbrev pub refutedAnswer : ℤ → ℕ → ℕ → ℕ → ℕ → List ℤ → List ℤ → List ℤ → List ℤ → List ℕ
 refutedAnswer q steps n ma mb a b vector coeffs =
-    factAnswer (interpolantAnswer n ma mb a b q vector coeffs) n (ma + mb) steps q vector (interpolantRun n ma mb a b q vector coeffs)
+    factAnswer (judgeAnswer n ma mb a b q vector coeffs) n (ma + mb) steps q vector (judgeRun n ma mb a b q vector coeffs)
 
 -- vector and point as the search leaves them
 abbrev pub outcomeAnswer : Outcome → ℕ → ℕ → ℕ → ℕ → List ℤ → List ℤ → List ℤ → List ℤ → List ℤ → List ℕ

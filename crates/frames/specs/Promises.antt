@@ -17,8 +17,8 @@ use lib.IntN.{ℤ}
 use mir.Syntax.{w32}
 use mir.Val.{SFits}
 use Rattle.integers.specs.Run.{at}
-use Rattle.checker.specs.Refutation.{refusal}
-use Rattle.checker.specs.Answer.{interpolantAnswer, interpolantRun}
+use Rattle.checker.specs.Answer.{judgeAnswer, judgeRun}
+use Rattle.checker.specs.Promises.{Accepted}
 use Rattle.checker.specs.declared.Answer.the-variants.{Fact}
 use Rattle.frames.specs.Hex.{isDigit, valueAt}
 use Rattle.frames.specs.Problem.{areDigits, lineRefusal, nOf, maOf, mbOf, budgetOf, sideLong, sideA, sideB}
@@ -63,9 +63,9 @@ pub record Certifies (n ma mb : ℕ) (a b : List ℤ) (q : ℤ) (text : List ℕ
   pub coeffs : List ℤ
   pub constant : ℤ
   pub modulus : ℤ
-  pub accepted : refusal n ma mb a b q vector ≡ 0
-  pub stated : interpolantAnswer n ma mb a b q vector (zeros n) ≡ Fact constant modulus
-  pub written : interpolantRun n ma mb a b q vector (zeros n) ≡ coeffs
+  pub accepted : Accepted n ma mb a b q vector
+  pub stated : judgeAnswer n ma mb a b q vector (zeros n) ≡ Fact constant modulus
+  pub written : judgeRun n ma mb a b q vector (zeros n) ≡ coeffs
   pub is : text ≡ refutationFrame steps (ma + mb) q vector ++ interpolantFrame n coeffs constant modulus
 
 pub record Fits32 (run : List ℤ) : Type 0 where

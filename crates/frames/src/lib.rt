@@ -166,7 +166,7 @@ fn put_refuted(
     requires { ⌜ Answerable n ma mb (now vector) (now coeffs) (now out) at ⌝ }
     ensures { λ r. ⌜ Written (now (out .entry)) at (refutedAnswer q steps n ma mb (now (a .entry)) (now (b .entry)) (now (vector .entry)) (now (coeffs .entry))) (now (out .exit)) r ⌝ }
 {
-    let given = checker::interpolant(n, ma, mb, a, b, q, vector, coeffs);
+    let given = checker::judge(n, ma, mb, a, b, q, vector, coeffs);
     match given {
         checker::Answer::Fact(constant, modulus) => {
             let end = put_refutation(steps, ma + mb, q, vector, out, at);

@@ -27,7 +27,7 @@ use Rattle.integers.specs.Run.{at}
 use Rattle.problem.specs.Rows.{Rows, sideOf, rowsOf}
 use Rattle.problem.specs.Points.{Meets}
 use Rattle.problem.specs.WellFormed.{million, Shape, WellFormed}
-use Rattle.checker.specs.Refutation.{refusal}
+use Rattle.checker.specs.Promises.{Accepted}
 use Rattle.search.specs.Table.{bound, cell, lessTimes}
 use Rattle.search.specs.State.{State, Outcome, Unfinished, TooLarge, Refuted, Solved, start}
 use Rattle.search.specs.Vector.{Vector, vectorOf}
@@ -160,7 +160,7 @@ module _ (n ma mb : ℕ) (a b vector point : List ℤ) where
     -- 8,076 steps always finish
     pub enough : (budget : ℕ) → mostSteps ≤ budget → saysUnfinished (answer budget) ≡ false
     -- refuted: the checker accepts what the vector run then holds, with q, so no point meets both sides
-    pub refuted-accepted : (budget : ℕ) (q : ℤ) → Says (answer budget) (Refuted q) → refusal n ma mb a b q (vectorRun budget) ≡ 0
+    pub refuted-accepted : (budget : ℕ) (q : ℤ) → Says (answer budget) (Refuted q) → Accepted n ma mb a b q (vectorRun budget)
     pub refuted-none : (budget : ℕ) (q : ℤ) → Says (answer budget) (Refuted q) → (X : ℕ → ℤ) → Meets n (sideOf n ma a) X → Meets n (sideOf n mb b) X → ⊥
     -- solved: what the point run then holds meets all rows
     pub solved-meets : (budget : ℕ) → Says (answer budget) Solved → Meets n rows (at (pointRun budget))

@@ -5,8 +5,7 @@ use mathlib.Core.List.{List}
 use Prim.Native.Nat.{ℕ}
 use lib.IntN.{ℤ}
 use Rattle.integers.proofs.Determined.{determined}
-use Rattle.checker.specs.Refutation.{refusal}
-use Rattle.checker.specs.Answer.{verdictOf, verdictNumber, interpolantAnswer, interpolantRun}
+use Rattle.checker.specs.Answer.{judgeAnswer, judgeRun}
 use Rattle.search.specs.Answer.{searchReply, searchVector, searchPoint, tableReply, tableRun, tableNumber}
 use Rattle.frames.specs.Answer.{respondEnd, respondRun}
 use Rattle.vayalittu.specs.Answers.{factOf, answerOf}
@@ -15,14 +14,11 @@ use Rattle.vayalittu.specs.declared.Fact.{Fact}
 
 module _ (n ma mb : ℕ) (a b : List ℤ) where
   module _ (q : ℤ) (p : List ℤ) where
-    pub check-determined : (r s : ℕ) → r ≡ verdictNumber (verdictOf (refusal n ma mb a b q p)) → s ≡ verdictNumber (verdictOf (refusal n ma mb a b q p)) → r ≡ s
-    check-determined r s = determined
+    pub judge-determined : (coeffs : List ℤ) (r s : Fact) → r ≡ factOf (judgeAnswer n ma mb a b q p coeffs) → s ≡ factOf (judgeAnswer n ma mb a b q p coeffs) → r ≡ s
+    judge-determined coeffs r s = determined
 
-    pub interpolant-determined : (coeffs : List ℤ) (r s : Fact) → r ≡ factOf (interpolantAnswer n ma mb a b q p coeffs) → s ≡ factOf (interpolantAnswer n ma mb a b q p coeffs) → r ≡ s
-    interpolant-determined coeffs r s = determined
-
-    pub interpolant-run-determined : (coeffs exit other : List ℤ) → exit ≡ interpolantRun n ma mb a b q p coeffs → other ≡ interpolantRun n ma mb a b q p coeffs → exit ≡ other
-    interpolant-run-determined coeffs exit other = determined
+    pub judge-run-determined : (coeffs exit other : List ℤ) → exit ≡ judgeRun n ma mb a b q p coeffs → other ≡ judgeRun n ma mb a b q p coeffs → exit ≡ other
+    judge-run-determined coeffs exit other = determined
 
   module _ (budget : ℕ) where
     pub search-determined : (vector point : List ℤ) (r s : Answer) → r ≡ answerOf (searchReply n ma mb a b budget vector point) → s ≡ answerOf (searchReply n ma mb a b budget vector point) → r ≡ s

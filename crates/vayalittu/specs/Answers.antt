@@ -1,5 +1,5 @@
--- The checker's and the search's answers as C sees them. A refusal is the paper's number, or 0; that of a verdict and of a copied table
--- is their `verdictNumber` and `tableNumber`.
+-- The checker's and the search's answers as C sees them. A refusal is the paper's number, or 0; that of a copied table is its
+-- `tableNumber`.
 --
 --     factOf            refusal, constant and modulus; both 0 if it is refused
 --     outcomeNumber     "one of four outcomes": 1 refuted, 2 solved, 3 too large, 4 unfinished

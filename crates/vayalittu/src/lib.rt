@@ -1,7 +1,6 @@
 // The functions for C. include/vayalittu.h says what each means to a C program.
 ghost use mathlib.Core.Path.{_≡_};
-ghost use Rattle.checker.specs.Refutation.{refusal};
-ghost use Rattle.checker.specs.Answer.{verdictOf, verdictNumber, interpolantAnswer, interpolantRun};
+ghost use Rattle.checker.specs.Answer.{judgeAnswer, judgeRun};
 ghost use Rattle.search.specs.Answer.{searchReply, searchVector, searchPoint, tableReply, tableRun, tableNumber};
 ghost use Rattle.search.specs.declared.Reply.the-variants.{Answered};
 ghost use Rattle.frames.specs.Answer.{respondEnd, respondRun};
@@ -16,7 +15,7 @@ pub struct Answer {
     pub q: i64,
 }
 
-// What is answered of an interpolant, beside its coefficients.
+// What is answered of a vector, beside its interpolant's coefficients.
 #[repr(C)]
 pub struct Fact {
     pub refusal: u32,
@@ -25,22 +24,7 @@ pub struct Fact {
 }
 
 #[no_mangle]
-pub extern "C" fn vayalittu_check(
-    n: usize,
-    ma: usize,
-    mb: usize,
-    a: &[i64],
-    b: &[i64],
-    q: i64,
-    p: &[i64],
-) -> u32
-    ensures { λ r. ⌜ r ≡ verdictNumber (verdictOf (refusal n ma mb (now (a .entry)) (now (b .entry)) q (now (p .entry)))) ⌝ }
-{
-    verdict(checker::check(n, ma, mb, a, b, q, p))
-}
-
-#[no_mangle]
-pub extern "C" fn vayalittu_interpolant(
+pub extern "C" fn vayalittu_judge(
     n: usize,
     ma: usize,
     mb: usize,
@@ -50,10 +34,10 @@ pub extern "C" fn vayalittu_interpolant(
     p: &[i64],
     coeffs: &mut [i64],
 ) -> Fact
-    ensures { λ r. ⌜ r ≡ factOf (interpolantAnswer n ma mb (now (a .entry)) (now (b .entry)) q (now (p .entry)) (now (coeffs .entry))) ⌝ }
-    ensures { λ r. ⌜ now (coeffs .exit) ≡ interpolantRun n ma mb (now (a .entry)) (now (b .entry)) q (now (p .entry)) (now (coeffs .entry)) ⌝ }
+    ensures { λ r. ⌜ r ≡ factOf (judgeAnswer n ma mb (now (a .entry)) (now (b .entry)) q (now (p .entry)) (now (coeffs .entry))) ⌝ }
+    ensures { λ r. ⌜ now (coeffs .exit) ≡ judgeRun n ma mb (now (a .entry)) (now (b .entry)) q (now (p .entry)) (now (coeffs .entry)) ⌝ }
 {
-    stated(checker::interpolant(n, ma, mb, a, b, q, p, coeffs))
+    stated(checker::judge(n, ma, mb, a, b, q, p, coeffs))
 }
 
 #[no_mangle]
@@ -96,15 +80,6 @@ pub extern "C" fn vayalittu_respond(line: &[u8], out: &mut [u8]) -> usize
     ensures { λ r. ⌜ now (out .exit) ≡ respondRun (now (line .entry)) (now (out .entry)) 0 ⌝ }
 {
     frames::respond(line, out, 0)
-}
-
-fn verdict(given: checker::Verdict) -> u32
-    ensures { λ r. ⌜ r ≡ verdictNumber given ⌝ }
-{
-    match given {
-        checker::Verdict::Accepted => 0,
-        checker::Verdict::Refused(number) => number as u32,
-    }
 }
 
 fn stated(given: checker::Answer) -> Fact

@@ -13,10 +13,10 @@ use lib.IntN.{ℤ, pos}
 use Rattle.problem.specs.Rows.{Rows, sideOf}
 use Rattle.problem.specs.Points.{Meets}
 use Rattle.problem.specs.Occurrence.{shared}
-use Rattle.checker.specs.Refutation.{columnSum, numerator, refusal}
+use Rattle.checker.specs.Refutation.{columnSum, numerator}
 use Rattle.checker.specs.Fact.{Holds, rawFact}
 use Rattle.checker.specs.NormalForm.{interpolantOf}
-use Rattle.checker.proofs.Laws.Refusal.{refusal-none}
+use Rattle.checker.specs.Promises.{Accepted}
 use Rattle.checker.proofs.Laws.Weighed.{raw-implied, raw-excluded}
 use Rattle.checker.proofs.Laws.Same.{normal-same, normal-zero}
 
@@ -25,12 +25,12 @@ pub implied : (n : ℕ) (A B : Rows) (p X : ℕ → ℤ) → Meets n A X → Hol
 implied n A B p X s = normal-same n (rawFact n A B p) .from X (raw-implied n A B p X s)
 
 -- of an accepted one
-pub excluded : (n ma mb : ℕ) (a b : List ℤ) (q : ℤ) (p : List ℤ) → refusal n ma mb a b q p ≡ 0 → (X : ℕ → ℤ) → Meets n (sideOf n mb b) X →
+pub excluded : (n ma mb : ℕ) (a b : List ℤ) (q : ℤ) (p : List ℤ) → Accepted n ma mb a b q p → (X : ℕ → ℤ) → Meets n (sideOf n mb b) X →
     Holds n (interpolantOf n (sideOf n ma a) (sideOf n mb b) (numerator p)) X → ⊥
 excluded n ma mb a b q p accepted X s h =
     let A = sideOf n ma a in
     let B = sideOf n mb b in
-    raw-excluded n A B (numerator p) q (refusal-none n ma mb a b q p accepted .refutes) X s (normal-same n (rawFact n A B (numerator p)) .to X h)
+    raw-excluded n A B (numerator p) q (accepted .refutes) X s (normal-same n (rawFact n A B (numerator p)) .to X h)
 
 -- of any vector
 pub only-shared : (n : ℕ) (A B : Rows) (p : ℕ → ℤ) (j : ℕ) → (interpolantOf n A B p .coef j ≡ pos 0 → ⊥) → shared A B j ≡ true

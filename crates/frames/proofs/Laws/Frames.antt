@@ -14,7 +14,7 @@ use Prim.Native.Nat.{ℕ, zero, suc, _+_, _*_}
 use native.Mathlib.Omega.{arith}
 use lib.ListN.{length, length-append}
 use lib.IntN.{ℤ}
-use Rattle.checker.specs.Answer.{interpolantAnswer, interpolantRun}
+use Rattle.checker.specs.Answer.{judgeAnswer, judgeRun}
 use Rattle.checker.specs.declared.Answer.{Answer}
 use Rattle.checker.specs.declared.Answer.the-variants.{Fact, Refused as Unstated}
 use Rattle.search.specs.Answer.{searchReply, searchVector, searchPoint}
@@ -61,12 +61,12 @@ module _ (l : List ℕ) where
   unfolding answerOf
   answer-problem e = ap (λ (k : ℕ). answerBy k (problemLines l)) (sym e)
 
-module _ (n ma mb : ℕ) (a b vector coeffs : List ℤ) (steps : ℕ) (r : Answer) {q q′ : ℤ} (is-q : q′ ≡ q) (is-r : r ≡ interpolantAnswer n ma mb a b q′ vector coeffs) where
+module _ (n ma mb : ℕ) (a b vector coeffs : List ℤ) (steps : ℕ) (r : Answer) {q q′ : ℤ} (is-q : q′ ≡ q) (is-r : r ≡ judgeAnswer n ma mb a b q′ vector coeffs) where
   abbrev run : ℤ → List ℤ
-  run q = interpolantRun n ma mb a b q vector coeffs
+  run q = judgeRun n ma mb a b q vector coeffs
 
   given : (x : Answer) → r ≡ x → factAnswer x n (ma + mb) steps q vector (run q) ≡ refutedAnswer q steps n ma mb a b vector coeffs
-  given x e = ap (λ (x : Answer). factAnswer x n (ma + mb) steps q vector (run q)) (sym e ∙ is-r ∙ ap (λ (q : ℤ). interpolantAnswer n ma mb a b q vector coeffs) is-q)
+  given x e = ap (λ (x : Answer). factAnswer x n (ma + mb) steps q vector (run q)) (sym e ∙ is-r ∙ ap (λ (q : ℤ). judgeAnswer n ma mb a b q vector coeffs) is-q)
 
   pub answer-fact : (left : List ℤ) {x y x′ y′ : ℤ} → r ≡ Fact x y → left ≡ run q′ → x′ ≡ x → y′ ≡ y →
       refutationFrame steps (ma + mb) q′ vector ++ interpolantFrame n left x′ y′ ≡ refutedAnswer q steps n ma mb a b vector coeffs

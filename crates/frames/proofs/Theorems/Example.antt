@@ -15,7 +15,6 @@ use Rattle.problem.specs.Occurrence.{occurs}
 use Rattle.checker.specs.Refutation.{sumsRefusal, vectorRefusal, refusal}
 use Rattle.checker.specs.Fact.{modulusOf}
 use Rattle.checker.specs.NormalForm.{divided, orElse, firstNonzero, signBy, residue, positiveBy, equalityBy, unitBy, congruenceBy, normalBy, normalForm}
-use Rattle.checker.specs.Answer.{interpolantRefusal}
 use Rattle.search.specs.Table.{eachRow}
 use Rattle.search.specs.State.{congruences, upperCell, startCell, startTable, givenOf, start}
 use Rattle.search.specs.Vector.{checked, unitVector, columnSum, factorOf, backOne, backBy, backFrom, denominatorBy, vectorOf}
@@ -29,5 +28,5 @@ use Rattle.frames.specs.Answer.{refutationFrame, interpolantFrame, lineE
 pub example-answered :
     answerOf (hex 96 0x010301010000000400000001fffffffe0000000000000000000000000000000100000000fffffffe0000000100000000)
     ≡ hex 36 0x02000000040200000002ffffffff00000001 ++ (lineEnd ++ (hex 84 0x050300000000000000010000000000000000000000000000000000000000000000000000000000000002 ++ lineEnd))
-unfolding problemAnswer refusalOf after nextBy stepOf stepBy closeOf closeBy refuteBy goOnBy placeBy placed passed closed lastBy solveBy pointOf placeOf residualOf swapBy negateBy reduceOf reduceBy tooLarge other otherwise least better vectorOf denominatorBy backFrom backBy backOne factorOf columnSum unitVector checked start givenOf startTable startCell upperCell congruences eachRow wellFormed tabulate allBelow anyBelow sum nonDivisor nonDivisorFrom gcdℤ gcdℕ gcdFrom euclid occurs sumsRefusal vectorRefusal refusal modulusOf divided orElse firstNonzero signBy residue positiveBy equalityBy unitBy congruenceBy normalBy normalForm interpolantRefusal answerOf problemLines lineRefusal isFrame isProblem refutationFrame interpolantFrame isDigit digitOf valueAt charOf hex hexes
+unfolding problemAnswer refusalOf after nextBy stepOf stepBy closeOf closeBy refuteBy goOnBy placeBy placed passed closed lastBy solveBy pointOf placeOf residualOf swapBy negateBy reduceOf reduceBy tooLarge other otherwise least better vectorOf denominatorBy backFrom backBy backOne factorOf columnSum unitVector checked start givenOf startTable startCell upperCell congruences eachRow wellFormed tabulate allBelow anyBelow sum nonDivisor nonDivisorFrom gcdℤ gcdℕ gcdFrom euclid occurs sumsRefusal vectorRefusal refusal modulusOf divided orElse firstNonzero signBy residue positiveBy equalityBy unitBy congruenceBy normalBy normalForm answerOf problemLines lineRefusal isFrame isProblem refutationFrame interpolantFrame isDigit digitOf valueAt charOf hex hexes
 example-answered = refl

@@ -13,8 +13,9 @@ use lib.ListN.{length, length-append, length-replicate}
 use lib.IntN.{ℤ, pos}
 use Rattle.integers.specs.Run.{at}
 use Rattle.integers.proofs.Laws.Run.{tabulate-length}
+use Rattle.checker.specs.Refutation.{refusal}
 use Rattle.checker.specs.Fact.{Fact as Stated}
-use Rattle.checker.specs.Answer.{interpolantRefusal, interpolantFor, interpolantAnswer, interpolantRun, runOf}
+use Rattle.checker.specs.Answer.{interpolantFor, judgeAnswer, judgeRun, runOf}
 use Rattle.checker.specs.declared.Answer.{Answer}
 use Rattle.checker.specs.declared.Answer.the-variants.{Fact, Refused as Unstated}
 use Rattle.search.specs.Answer.{isRefuted, isSolved, writtenIf, searched, searchRefusal, searchReply, searchVector, searchPoint}
@@ -57,9 +58,9 @@ module _ (n ma mb : ℕ) (a b vector point coeffs : List ℤ) (few-n : n ≤ 12)
   outcome-long Unfinished steps = let e = unfinished-length steps in record { some = omega arith; short = omega arith }
   outcome-long TooLarge steps = refusal-long 8 steps
   outcome-long (Refuted q) steps =
-      let run = interpolantRun n ma mb a b q vector coeffs in
-      let e = run-length (interpolantRefusal n ma mb a b q vector (length coeffs)) n (interpolantFor n ma mb a b vector) coeffs few-coeffs in
-      fact-long (interpolantAnswer n ma mb a b q vector coeffs) n (ma + mb) steps q vector run few-vector (omega arith)
+      let run = judgeRun n ma mb a b q vector coeffs in
+      let e = run-length (refusal n ma mb a b q vector (length coeffs)) n (interpolantFor n ma mb a b vector) coeffs few-coeffs in
+      fact-long (judgeAnswer n ma mb a b q vector coeffs) n (ma + mb) steps q vector run few-vector (omega arith)
   outcome-long Solved steps = let e = point-length steps n point in record { some = omega arith; short = omega arith }
 
   reply-long : (r : Reply) → Long (replyAnswer r n ma mb a b vector point coeffs)

@@ -11,10 +11,10 @@ use lib.ListN.{length, length-replicate}
 use lib.IntN.{ℤ, pos}
 use Rattle.problem.specs.WellFormed.{WellFormed}
 use Rattle.checker.specs.Refutation.{refusal}
-use Rattle.checker.specs.Answer.{interpolantFor, answerOf, interpolantAnswer, interpolantRun, interpolantRefusal}
-use Rattle.checker.specs.Promises.{says-0, as-check}
+use Rattle.checker.specs.Answer.{interpolantFor, answerOf, judgeAnswer, judgeRun}
+use Rattle.checker.specs.Promises.{Accepted, says-0}
 use Rattle.checker.specs.declared.Answer.{Answer}
-use Rattle.checker.proofs.Theorems.Accepted.{accepted-is, interpolant-refused-is}
+use Rattle.checker.proofs.Theorems.Accepted.{refused-is}
 use Rattle.search.specs.Answer.{searchReply, searchVector, searchPoint}
 use Rattle.search.specs.Promises.{Says}
 use Rattle.search.specs.declared.Reply.{Reply}
@@ -48,13 +48,13 @@ module _ (n ma mb : ℕ) (a b : List ℤ) (budget : ℕ) (q : ℤ) where
     well-formed : WellFormed n ma mb a b
     well-formed = answered-well-formed n ma mb a b budget no-vector no-point (Refuted q) says
 
-    accepted : refusal n ma mb a b q vector ≡ 0
+    accepted : Accepted n ma mb a b q vector
     accepted = demand n ma mb a b no-vector no-point well-formed (length-replicate (ma + mb) (pos 0)) (length-replicate n (pos 0)) .refuted-accepted budget q says
 
-    not-refused : interpolantRefusal n ma mb a b q vector (length (zeros n)) ≡ 0
-    not-refused = interpolant-refused-is n ma mb a b q vector (length (zeros n)) 0 .1 (as-check (well-formed .shape) (length-replicate n (pos 0)) (says-0 (accepted-is n ma mb a b q vector .0 accepted)))
+    not-refused : refusal n ma mb a b q vector (length (zeros n)) ≡ 0
+    not-refused = refused-is n ma mb a b q vector (length (zeros n)) 0 .1 (says-0 accepted (length-replicate n (pos 0)))
 
-    stated : interpolantAnswer n ma mb a b q vector (zeros n) ≡ answerOf 0 (interpolantFor n ma mb a b vector)
+    stated : judgeAnswer n ma mb a b q vector (zeros n) ≡ answerOf 0 (interpolantFor n ma mb a b vector)
     stated = ap (λ (k : ℕ). answerOf k (interpolantFor n ma mb a b vector)) not-refused
 
     pub refuted-answered : Certifies n ma mb a b q (problemAnswer n ma mb a b budget no-vector no-point (zeros n))
@@ -64,11 +64,11 @@ module _ (n ma mb : ℕ) (a b : List ℤ) (budget : ℕ) (q : ℤ) where
         record {
           steps = answer .0;
           vector = vector;
-          coeffs = interpolantRun n ma mb a b q vector (zeros n);
+          coeffs = judgeRun n ma mb a b q vector (zeros n);
           constant = interpolantFor n ma mb a b vector .const;
           modulus = interpolantFor n ma mb a b vector .modulus;
           accepted = accepted;
           stated = stated;
           written = refl;
-          is = answer .1 ∙ ap (λ (f : Answer). factAnswer f n (ma + mb) (answer .0) q vector (interpolantRun n ma mb a b q vector (zeros n))) stated;
+          is = answer .1 ∙ ap (λ (f : Answer). factAnswer f n (ma + mb) (answer .0) q vector (judgeRun n ma mb a b q vector (zeros n))) stated;
         }

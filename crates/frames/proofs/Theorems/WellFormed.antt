@@ -15,7 +15,7 @@ use lib.IntN.{ℤ}
 use mir.Syntax.{w64}
 use mir.Val.{ofZ}
 use Rattle.integers.proofs.Laws.Below.{all-each}
-use Rattle.checker.specs.Answer.{interpolantAnswer, interpolantRun}
+use Rattle.checker.specs.Answer.{judgeAnswer, judgeRun}
 use Rattle.checker.specs.declared.Answer.{Answer}
 use Rattle.checker.specs.declared.Answer.the-variants.{Fact, Refused as Unstated}
 use Rattle.search.specs.Answer.{searchReply, searchVector, searchPoint}
@@ -70,7 +70,7 @@ module _ (n ma mb : ℕ) (a b vector point coeffs : List ℤ) where
   outcome-answer Unfinished steps = unfinished (unfinished-line steps)
   outcome-answer TooLarge steps = refused (refusal-line 8 steps)
   outcome-answer (Refuted q) steps =
-      fact-answer (interpolantAnswer n ma mb a b q vector coeffs) n (ma + mb) steps q vector (interpolantRun n ma mb a b q vector coeffs)
+      fact-answer (judgeAnswer n ma mb a b q vector coeffs) n (ma + mb) steps q vector (judgeRun n ma mb a b q vector coeffs)
   outcome-answer Solved steps = solved (point-line steps n point)
 
   reply-answer : (r : Reply) → IsAnswer (replyAnswer r n ma mb a b vector point coeffs)

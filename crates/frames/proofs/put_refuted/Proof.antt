@@ -8,8 +8,8 @@ use borrow.Author.Needs.{needs}
 use Rattle.frames.proofs.put_refuted.Statement.{statement}
 use Rattle.frames.proofs.put_refuted.Tie as tie
 
-interpolant-requires : tie.Need-interpolant-requires
-interpolant-requires c κs = search needs
+judge-requires : tie.Need-judge-requires
+judge-requires c κs = search needs
 
 enum-known-given : tie.Need-enum-known-given
 enum-known-given c = search needs
@@ -42,8 +42,8 @@ returns c =
     let asked = known .before .before .before in
     let s = asked .before .before .before in
     written-same
-    (answer-fact (s .args .n) (s .args .ma) (s .args .mb) (s .args .a .now) (s .args .b .now) (s .args .vector .now) (s .args .coeffs .now) (s .args .steps) (asked .interpolant .result)
-    (stored-is (s .fits .q)) (asked .interpolant .ensures .0) _ (known .given .given .1) (asked .interpolant .ensures .1)
+    (answer-fact (s .args .n) (s .args .ma) (s .args .mb) (s .args .a .now) (s .args .b .now) (s .args .vector .now) (s .args .coeffs .now) (s .args .steps) (asked .judge .result)
+    (stored-is (s .fits .q)) (asked .judge .ensures .0) _ (known .given .given .1) (asked .judge .ensures .1)
     (stored-is (record { sfits = told .known-told .given .0 .1 })) (stored-is (record { sfits = told .known-told .given .1 .0 .1 })))
     (written-then _ _ (put .put-refutation .ensures) (interp .put-interpolant .ensures))
 
@@ -66,15 +66,15 @@ returns-2 c =
     let asked = known .before .before .before in
     let s = asked .before .before .before in
     written-same
-    (answer-unstated (s .args .n) (s .args .ma) (s .args .mb) (s .args .a .now) (s .args .b .now) (s .args .vector .now) (s .args .coeffs .now) (s .args .steps) (asked .interpolant .result)
-    (stored-is (s .fits .q)) (asked .interpolant .ensures .0) _ (known .given2 .given .1))
+    (answer-unstated (s .args .n) (s .args .ma) (s .args .mb) (s .args .a .now) (s .args .b .now) (s .args .vector .now) (s .args .coeffs .now) (s .args .steps) (asked .judge .result)
+    (stored-is (s .fits .q)) (asked .judge .ensures .0) _ (known .given2 .given .1))
     (put .put-refusal .ensures)
 
 pub put-refuted-spec : {M : Type 1} → statement M
 put-refuted-spec =
     tie.close
     (tie.spec
-    interpolant-requires
+    judge-requires
     enum-known-given
     add-put-refutation
     put-refutation-requires

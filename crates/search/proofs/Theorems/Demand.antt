@@ -14,7 +14,7 @@ use Rattle.integers.specs.Run.{at, tabulate}
 use Rattle.problem.specs.Points.{Meets}
 use Rattle.problem.specs.Rows.{rowsOf}
 use Rattle.problem.specs.WellFormed.{WellFormed}
-use Rattle.checker.specs.Refutation.{refusal}
+use Rattle.checker.specs.Promises.{Accepted}
 use Rattle.search.specs.State.{State, Outcome, Refuted, Solved, TooLarge}
 use Rattle.search.specs.Run.{isUnfinished}
 use Rattle.search.specs.Answer.{replyOf, isRefuted, isSolved, writtenBy, writtenIf, searched, searchRefusal, searchReply}
@@ -76,7 +76,7 @@ module _ (n ma mb : ℕ) (a b vector point : List ℤ) (w : WellFormed n ma mb a
     enough = λ budget l. unfinished-same budget ∙ enough n ma mb a b w budget l;
     refuted-accepted = λ budget q h.
         let e = says budget (Refuted q) h in
-        subst⁻¹ (λ (p : List ℤ). refusal n ma mb a b q p ≡ 0) (run budget (isRefuted (final budget .outcome)) vector (ma + mb) (ap isRefuted e) vector-long) (refuted-accepted n ma mb a b w budget q e);
+        subst⁻¹ (Accepted n ma mb a b q) (run budget (isRefuted (final budget .outcome)) vector (ma + mb) (ap isRefuted e) vector-long) (refuted-accepted n ma mb a b w budget q e);
     refuted-none = λ budget q h. refuted-none n ma mb a b w budget q (says budget (Refuted q) h);
     solved-meets = λ budget h.
         let e = says budget Solved h in

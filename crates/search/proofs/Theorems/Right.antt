@@ -18,9 +18,7 @@ use Rattle.problem.specs.Rows.{Rows, sideOf, rowsOf}
 use Rattle.problem.specs.Points.{Meets}
 use Rattle.problem.specs.WellFormed.{million, WellFormed}
 use Rattle.problem.proofs.Laws.Points.{both-meets}
-use Rattle.checker.specs.Refutation.{refusal}
 use Rattle.checker.specs.Promises.{Accepted}
-use Rattle.checker.proofs.Theorems.Accepted.{accepted-is}
 use Rattle.checker.proofs.Theorems.Refuted.{refuted}
 use Rattle.search.specs.State.{Given, State, Outcome, Unfinished, TooLarge, Refuted, Solved, upperCell, givenOf, start}
 use Rattle.search.specs.Run.{isUnfinished}
@@ -55,8 +53,8 @@ module _ (n ma mb : ℕ) (a b : List ℤ) (w : WellFormed n ma mb a b) (budget :
   point = tabulate n (at (final .found))
 
   module _ (q : ℤ) (e : final .outcome ≡ Refuted q) where
-    accepted : Accepted n ma mb a b q numerators
-    accepted =
+    pub refuted-accepted : Accepted n ma mb a b q numerators
+    refuted-accepted =
         let r = right (Refuted q) e in
         let same = tabulate-at (ma + mb) (at (final .found)) in
         record {
@@ -65,9 +63,6 @@ module _ (n ma mb : ℕ) (a b : List ℤ) (w : WellFormed n ma mb a b) (budget :
           numerators = record { in-range = λ i l. subst (λ z. natAbs z ≤ million) (sym (same i l)) (r .numerators-in i) };
           refutes = refutes-rows n R (w .shape .few-n) (w .shape .few-m) (at (final .found)) (at numerators) q same (subst (λ (g : Given). RefutesTable (upperCell n R) g (at (final .found)) q) given-is r);
         }
-
-    pub refuted-accepted : refusal n ma mb a b q numerators ≡ 0
-    refuted-accepted = accepted-is n ma mb a b q numerators .1 accepted
 
     pub refuted-none : (X : ℕ → ℤ) → Meets n (sideOf n ma a) X → Meets n (sideOf n mb b) X → ⊥
     refuted-none = refuted n ma mb a b q numerators refuted-accepted
