@@ -354,11 +354,11 @@ def judge_problem(library, source):
     judge_vector(library, call, q, p, n)
     if source.random() < 0.2:
         p = p + [0] if source.random() < 0.5 else [source.choice([1_000_000, 1_000_001, -2 ** 63])] + p[1:]
-    judge_vector(library, call, q, p, n + source.choice([0, 0, 1]))
+    judge_vector(library, call, q, p, n + source.choice([0, 0, 1, -1]))
     broken = damaged(source, call)
     judge_search(library, broken, source.choice([0, 5, 8076]), m, n)
     judge_table(library, broken, 3, source.choice([864, 864, 12]))
-    judge_vector(library, broken, q, p, n)
+    judge_vector(library, broken, q, p, n + source.choice([0, 0, 1, -1]))
     return answer[0]
 
 
