@@ -34,7 +34,7 @@ static int interpolate(size_t k)
     return answer.outcome == VAYALITTU_REFUTED ? judge(k) : UNDECIDED;
 }
 
-/* Of one vector, that of a refuted problem. */
+/* Judges one vector, that of a refuted problem. */
 static int judge_refuted(size_t k)
 {
     return judge(refuted[k % refuted_count]);

@@ -1,6 +1,6 @@
-/* Vayalittu for C: looks for a vector that refutes two systems of integer equations and congruences together, and judges one:
- * whether it refutes, and its interpolant. `./build vayalittu` writes target/staticlib/libvayalittu.a; link it, and nothing else, into a program
- * for x86-64.
+/* Vayalittu for C: looks for a vector that refutes two systems of integer equations and congruences together, and judges one: whether
+ * it refutes, and its interpolant. `./build vayalittu` writes target/staticlib/libvayalittu.a; link it, and nothing else, into a
+ * program for x86-64.
  *
  * A problem is n variables (1 to 12), ma rows of side A and mb rows of side B (together 1 to 12). A row is n coefficients, a
  * constant and a modulus, which is 0 for an equation, so that a side has exactly ma * (n + 2) or mb * (n + 2) numbers.
@@ -62,14 +62,14 @@ typedef struct {
 } vayalittu_fact;
 
 /* Judges the vector with denominator q and numerators p (A's rows first). The verdict is the refusal: 0 if the vector refutes both
- * sides together, so that no integer point meets both, else 1 to 7. Who wants the verdict alone looks at nothing else; `coeffs` is n
- * numbers all the same.
+ * sides together, so that no integer point meets both, else 1 to 7. Who wants the verdict alone lends n numbers all the same, and looks
+ * at the refusal only. 12 numbers are enough for every n: lent as the lesser of n and 12, they leave a larger n to refusal 1.
  *
  * Where the refusal is 0, the vector's interpolant is given in normal form: its coefficients are written into `coeffs`, its constant
  * and modulus are answered. The fact is coefficients * x = constant, modulo the modulus unless that is 0. Every integer point of A
  * meets it, none of B does, and only variables that occur in both sides have a coefficient other than 0. TRUE is all zeros; FALSE is
  * all zeros with constant 1; both have modulus 0. Otherwise the modulus is 0 and the first nonzero coefficient is positive, or it is 2
- * or more and all numbers lie in 0..modulus - 1. Where it is not 0, `coeffs` is as it was. */
+ * or more and all numbers lie in 0..modulus - 1. A refusal leaves `coeffs` as it was. */
 vayalittu_fact vayalittu_judge(size_t n, size_t ma, size_t mb, const int64_t *a, size_t a_len, const int64_t *b, size_t b_len,
                                int64_t q, const int64_t *p, size_t p_len, int64_t *coeffs, size_t coeffs_len);
 

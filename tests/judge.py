@@ -461,7 +461,8 @@ def judge_stored(in_path, out_path):
 
 
 def judge_stored_vector(library, case):
-    call, (q, p, length) = [case[name] for name in ('n', 'ma', 'mb', 'a', 'b')], [case[name] for name in ('q', 'p', 'coeffs_len')]
+    call = [case[name] for name in ('n', 'ma', 'mb', 'a', 'b')]
+    q, p, length = case['q'], case['p'], case['coeffs_len']
     told = case['answer']
     answer = told['refusal'] or (told['coeffs'], told['constant'], told['modulus'])
     agree(reference.judge(*call, q, p, length), answer, 'the reference', *call, q, p, length)

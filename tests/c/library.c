@@ -181,7 +181,7 @@ static void refusals(void)
 {
     static const int64_t row[] = {2, 1, 0}, wide[] = {1000001, 1, 0}, negative[] = {2, 1, -1};
     const int64_t *a = edge(row, sizeof row), one = 1, *p = edge(&one, sizeof one);
-    int64_t *v = unwritten(1), *x = unwritten(1), *cells = unwritten(863), *coeffs = unwritten(2);
+    int64_t *v = unwritten(1), *x = unwritten(1), *cells = unwritten(863), *coeffs = unwritten(1), *longer = unwritten(2);
     problem right = {1, 1, 0, a, 3, NULL, 0};
     problem shapes[] = {{0, 1, 0, a, 3, NULL, 0},  {13, 1, 0, a, 3, NULL, 0}, {1, 0, 0, NULL, 0, NULL, 0},
                         {1, 13, 0, a, 3, NULL, 0}, {1, 1, 0, a, 2, NULL, 0},  {1, 1, 1, a, 3, NULL, 0},
@@ -196,10 +196,10 @@ static void refusals(void)
     EXPECT(vayalittu_search(GIVEN(&ranges[0]), 5, v, 0, x, 1).refusal == 2);
     EXPECT(vayalittu_search(GIVEN(&right), 5, v, 1, NULL, 0).refusal == 2);
     EXPECT(vayalittu_table(GIVEN(&right), 5, cells, 863) == 2);
-    EXPECT(vayalittu_judge(GIVEN(&ranges[0]), 2, p, 1, coeffs, 2).refusal == 2);
+    EXPECT(vayalittu_judge(GIVEN(&ranges[0]), 2, p, 1, longer, 2).refusal == 2);
     EXPECT(vayalittu_judge(GIVEN(&right), 2, p, 1, NULL, 0).refusal == 2);
-    EXPECT(vayalittu_judge(GIVEN(&right), 2, NULL, 0, v, 1).refusal == 4);
-    EXPECT(is_unwritten(v, 1) && is_unwritten(x, 1) && is_unwritten(cells, 863) && is_unwritten(coeffs, 2));
+    EXPECT(vayalittu_judge(GIVEN(&right), 2, NULL, 0, coeffs, 1).refusal == 4);
+    EXPECT(is_unwritten(v, 1) && is_unwritten(x, 1) && is_unwritten(cells, 863) && is_unwritten(coeffs, 1) && is_unwritten(longer, 2));
 
     refused(&right, 0, &one, 1, 4);
     refused(&right, 1000001, &one, 1, 4);

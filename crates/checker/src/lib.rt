@@ -25,8 +25,8 @@ pub enum Answer {
     Refused(u8),
 }
 
-// If q and the numerators p refute the two sides together, writes the interpolant's coefficients, and answers its constant and its
-// modulus. A refusal leaves the run as it was.
+// Judges a vector: where q and the numerators p refute the two sides together, writes the interpolant's coefficients, and answers its
+// constant and its modulus; else answers the first refusal, and leaves the run as it was.
 pub fn judge(
     n: usize,
     ma: usize,
@@ -49,7 +49,7 @@ pub fn judge(
 
 // ---- A refutation
 
-// The first refusal of a problem, of a run lent for the coefficients that is `long` long, and of a vector; 0 if there is none.
+// The first refusal, in the paper's order, of a call whose run for the coefficients is `long` long; 0 if there is none.
 fn refusal(
     n: usize,
     ma: usize,

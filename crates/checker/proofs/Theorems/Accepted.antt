@@ -1,7 +1,7 @@
 -- A vector is accepted exactly when the problem is well formed, the vector is in range, and it refutes. Each refusal is given
 -- exactly in its case.
 --
---     accepted-is        with a run that is n long, the refusal is 0 exactly when Accepted holds
+--     accepted-is        the refusal is 0 exactly when Accepted holds and the run is n long
 --     refused-is         the refusal is k exactly when Says k holds; no other numbers than 0 to 7 have a case
 --     judge-number-is    what `judge` answers has the number k exactly when Says k holds
 --
@@ -23,8 +23,8 @@ answer-number zero f = refl
 answer-number (suc k) f = refl
 
 module _ (n ma mb : ℕ) (a b : List ℤ) (q : ℤ) (p : List ℤ) where
-  pub accepted-is : (refusal n ma mb a b q p n ≡ 0 → Accepted n ma mb a b q p) × (Accepted n ma mb a b q p → refusal n ma mb a b q p n ≡ 0)
-  accepted-is = ((λ e. refusal-none n ma mb a b q p n e .0), (λ h. refusal-is n ma mb a b q p n (says-0 h refl)))
+  pub accepted-is : (long : ℕ) → (refusal n ma mb a b q p long ≡ 0 → Accepted n ma mb a b q p × (long ≡ n)) × (Accepted n ma mb a b q p × (long ≡ n) → refusal n ma mb a b q p long ≡ 0)
+  accepted-is long = (refusal-none n ma mb a b q p long, λ h. refusal-is n ma mb a b q p long (says-0 (h .0) (h .1)))
 
   pub refused-is : (long k : ℕ) → (refusal n ma mb a b q p long ≡ k → Says n ma mb a b q p long k) × (Says n ma mb a b q p long k → refusal n ma mb a b q p long ≡ k)
   refused-is long k = ((λ e. subst (Says n ma mb a b q p long) e (refusal-says n ma mb a b q p long)), refusal-is n ma mb a b q p long)

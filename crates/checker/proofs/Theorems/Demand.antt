@@ -12,8 +12,7 @@ use Rattle.problem.specs.Rows.{sideOf}
 use Rattle.checker.specs.Refutation.{numerator, refusal}
 use Rattle.checker.specs.Answer.{interpolantFor, answerOf, runOf, answerNumber, judgeAnswer}
 use Rattle.checker.specs.Promises.{Accepted, Demand}
-use Rattle.checker.proofs.Laws.Refusal.{refusal-none}
-use Rattle.checker.proofs.Theorems.Accepted.{refused-is, judge-number-is}
+use Rattle.checker.proofs.Theorems.Accepted.{accepted-is, refused-is, judge-number-is}
 use Rattle.checker.proofs.Theorems.Refuted.{refuted}
 use Rattle.checker.proofs.Theorems.Normal.{interpolant-form}
 use Rattle.checker.proofs.Theorems.Implied.{implied, excluded, only-shared}
@@ -24,7 +23,7 @@ module _ (n ma mb : ℕ) (a b : List ℤ) (q : ℤ) (p entry : List ℤ) (stated
   none = refused-is n ma mb a b q p (length entry) 0 .1 (judge-number-is n ma mb a b q p entry 0 .0 stated)
 
   accepted : Accepted n ma mb a b q p
-  accepted = refusal-none n ma mb a b q p (length entry) none .0
+  accepted = accepted-is n ma mb a b q p (length entry) .0 none .0
 
   pub demand : Demand n ma mb a b q p entry
   demand =

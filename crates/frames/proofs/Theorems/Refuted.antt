@@ -12,9 +12,9 @@ use lib.IntN.{ℤ, pos}
 use Rattle.problem.specs.WellFormed.{WellFormed}
 use Rattle.checker.specs.Refutation.{refusal}
 use Rattle.checker.specs.Answer.{interpolantFor, answerOf, judgeAnswer, judgeRun}
-use Rattle.checker.specs.Promises.{Accepted, says-0}
+use Rattle.checker.specs.Promises.{Accepted}
 use Rattle.checker.specs.declared.Answer.{Answer}
-use Rattle.checker.proofs.Theorems.Accepted.{refused-is}
+use Rattle.checker.proofs.Theorems.Accepted.{accepted-is}
 use Rattle.search.specs.Answer.{searchReply, searchVector, searchPoint}
 use Rattle.search.specs.Promises.{Says}
 use Rattle.search.specs.declared.Reply.{Reply}
@@ -52,7 +52,7 @@ module _ (n ma mb : ℕ) (a b : List ℤ) (budget : ℕ) (q : ℤ) where
     accepted = demand n ma mb a b no-vector no-point well-formed (length-replicate (ma + mb) (pos 0)) (length-replicate n (pos 0)) .refuted-accepted budget q says
 
     not-refused : refusal n ma mb a b q vector (length (zeros n)) ≡ 0
-    not-refused = refused-is n ma mb a b q vector (length (zeros n)) 0 .1 (says-0 accepted (length-replicate n (pos 0)))
+    not-refused = accepted-is n ma mb a b q vector (length (zeros n)) .1 (accepted, length-replicate n (pos 0))
 
     stated : judgeAnswer n ma mb a b q vector (zeros n) ≡ answerOf 0 (interpolantFor n ma mb a b vector)
     stated = ap (λ (k : ℕ). answerOf k (interpolantFor n ma mb a b vector)) not-refused
