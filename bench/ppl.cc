@@ -29,9 +29,11 @@ static void enter(Grid &grid, size_t n, const int64_t *side, size_t rows)
 
 static bool occurs(size_t n, const int64_t *side, size_t rows, size_t j)
 {
-    for (size_t i = 0; i < rows; i++)
-        if (side[i * (n + 2) + j] != 0)
+    for (size_t i = 0; i < rows; i++) {
+        int64_t c = side[i * (n + 2) + j], l = side[i * (n + 2) + n + 1];
+        if (l == 0 ? c != 0 : c % l != 0)
             return true;
+    }
     return false;
 }
 

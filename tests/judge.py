@@ -233,6 +233,18 @@ def edge_problem(source):
     return n, ma, m - ma, numbers[:cut], numbers[cut:]
 
 
+def seeming_problem(source):
+    """Congruences, in B above all, with coefficients that their modulus divides: variables that only seem to occur."""
+    n, ma, mb = source.randint(2, 4), source.randint(1, 2), source.randint(1, 2)
+    numbers = []
+    for i in range(ma + mb):
+        l = source.choice([1, 2, 3, 4, 6, 8]) if source.random() < (0.2 if i < ma else 0.8) else 0
+        c = [source.randint(-4, 4) * source.choice([1, l or 1]) for _ in range(n)]
+        numbers += c + [source.randint(-4, 4), l]
+    cut = ma * (n + 2)
+    return n, ma, mb, numbers[:cut], numbers[cut:]
+
+
 def damaged(source, problem):
     """A call that something is wrong with, or not."""
     n, ma, mb, a, b = problem
@@ -264,6 +276,8 @@ def random_problem(source):
         return loop_trace(source)
     if kind < 0.3:
         return edge_problem(source)
+    if kind < 0.45:
+        return seeming_problem(source)
     return search_reference.random_problem(source)
 
 

@@ -34,8 +34,9 @@ def meets(n, rows, X):
 
 
 def occurs(n, side, j):
-    """    A variable occurs in a side if some row there has a nonzero coefficient for it."""
-    return any(c[j] != 0 for c, _, _ in rows_of(n, side))
+    """    A variable occurs in a congruence only if the modulus does not divide its coefficient; for equations nothing changes
+    (nonzero). [It occurs in a side if it occurs in] some row there."""
+    return any(c[j] % l != 0 if l > 0 else c[j] != 0 for c, _, l in rows_of(n, side))
 
 
 def shape_is_right(n, ma, mb, a, b):
@@ -142,7 +143,7 @@ def judge(n, ma, mb, a, b, q, p, length):
     return normal_equation(n, shared, K) if M == 0 else normal_congruence(n, shared, K, M)
 
 
-# The self-test: the paper's cases 1 to 7, and random problems with accepted vectors.
+# The self-test: the paper's cases 1 to 7, variables that only seem to occur, and random problems with accepted vectors.
 
 # Name, (n, ma, mb, a, b, q, p), and the answer as the paper's section "Checked by hand" has it. x, y, z are places 1, 2, 3.
 PARITY = (3, 1, 1, [1, -2, 0, 0, 0], [1, 0, -2, 1, 0])
@@ -160,6 +161,13 @@ PAPER = [
     ("7, q 1", PARITY + (1, [1, 1]), 7),
 ]
 
+# The same, worked out by hand: x does not occur in 8x - 4y ≡ 0 (mod 8), nor does anything modulo 1.
+SEEMING = [
+    ("8x in B", (2, 1, 1, [-2, 1, 1, 0], [8, -4, 0, 8], 8, [4, 1]), ([0, 1], 1, 2)),
+    ("8x in A", (2, 1, 1, [8, -4, 0, 8], [-2, 1, 1, 0], 8, [1, 4]), ([0, 1], 0, 2)),
+    ("y modulo 1 in B", (3, 1, 2, [1, -2, 0, 0, 0], [1, 0, -2, 1, 0, 0, 1, 0, 0, 1], 2, [1, 1, 0]), ([1, 0, 0], 0, 2)),
+]
+
 
 def expect(holds, what):
     """Counts a check that holds, and ends the program at the first that does not."""
@@ -171,7 +179,7 @@ def expect(holds, what):
 expect.count = 0
 
 
-def paper_case(name, call, answer):
+def worked_case(name, call, answer):
     expect(judge(*call, call[0]) == answer, f"case {name}")
 
 
@@ -202,21 +210,27 @@ def is_normal(coefficients, constant, modulus):
             and all(0 <= x < modulus for x in coefficients + [constant]))
 
 
+def changes(n, side, j):
+    """Whether a step of variable j alone changes the left side of a row, modulo its modulus: what occurrence means, without its rule."""
+    step = [int(k == j) for k in range(n)]
+    return not all(meets(n, c + [0, l], step) for c, _, l in rows_of(n, side))
+
+
 def accepted_call(call, fact):
     """That the fact is an interpolant, on a box of points, and in normal form."""
     n, _, _, a, b = call[:5]
     coefficients, constant, modulus = fact
     row = coefficients + [constant, modulus]
     expect(is_normal(coefficients, constant, modulus), f"normal form of {call}")
-    expect(all(coefficients[j] == 0 or occurs(n, a, j) and occurs(n, b, j) for j in range(n)), f"shared in {call}")
+    expect(all(c == 0 or changes(n, a, j) and changes(n, b, j) for j, c in enumerate(coefficients)), f"shared in {call}")
     box = list(itertools.product(range(-4, 5), repeat=n))
     expect(all(meets(n, row, X) for X in box if meets(n, a, X)), f"A implies the fact of {call}")
     expect(not any(meets(n, row, X) for X in box if meets(n, b, X)), f"B excludes the fact of {call}")
 
 
 if __name__ == '__main__':
-    for case in PAPER:
-        paper_case(*case)
+    for case in PAPER + SEEMING:
+        worked_case(*case)
     rng = random.Random(20260101)
     accepted = 0
     while accepted < 3000:

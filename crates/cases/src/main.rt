@@ -1,5 +1,5 @@
-// Calls the checker on the examples of the article, on the paper's cases 5 to 7, at the ends of the ranges, and for each
-// refusal. The last lines are of searches, the paper's cases 8 and 9.
+// Calls the checker on the examples of the article, on variables that only seem to occur, on the paper's cases 5 to 7, at the ends of
+// the ranges, and for each refusal. The last lines are of searches, the paper's cases 8 and 9.
 //
 // The variables x, y, z are x1, x2, x3. A row is its coefficients, its constant and its modulus. A comment above a call derives
 // its answer: S by variable over A's rows, then K and M, as the paper names them, and g, by which the normal form divides.
@@ -177,7 +177,7 @@ fn every_integer() {
     let a = [1, 0, 1];
     let b = [2, 1, 0];
     let p = [2, 1];
-    // x: 2, K = 0, M = 2: 2x ≡ 0 (mod 2), and by g = 2 the modulus is 1.
+    // Modulo 1 nothing occurs, so x is not shared. x: 2, K = 0, M = 2: 0 ≡ 0 (mod 2), and by g = 2 the modulus is 1.
     single(b"example 1", &a, &b, 2, &p);
 }
 
@@ -272,7 +272,7 @@ fn one_common_modulus() {
     line(b"section 4.2, F'", 2, 2, 1, &a, &b, 8, &p, &mut f);
 }
 
-// Where the article leaves a choice, or the paper decides otherwise.
+// Where the article leaves a choice.
 fn choices() {
     let multiple = [1, -4, 0, 0, 0];
     let odd = [1, 0, -2, 1, 0];
@@ -283,10 +283,32 @@ fn choices() {
     let p = [0, 4];
     // Theorem 4 with no row of A used, its 0 ≡ 0 (mod 8). x: 0, K = 0, M = 0.
     single(b"theorem 4, trivial", &a, &b, 8, &p);
+}
+
+// Variables that only seem to occur in a congruence, since its modulus divides their coefficient.
+fn seeming() {
     let even = [1, -2, 0, 0, 0];
     let sum = [1, 2, 0, 1, 2];
-    // 2y occurs modulo 2 by the paper, though not by the article. So y is shared. x: 1, y: -2, K = 0, M = 0.
-    halved(b"occurrence", &even, &sum);
+    // 2y does not occur modulo 2, so y is A-local. x: 1, y: -2, K = 0, M = 2.
+    halved(b"2*x2 in B, modulo 2", &even, &sum);
+    let odd = [1, 0, -2, 1, 0, 0, 1, 0, 0, 1];
+    let half = [1, 1, 0];
+    let mut f = [7, 7, 7];
+    // Nor does y modulo 1, in a row without weight. x: 1, y: -2, K = 0, M = 2.
+    line(b"x2 in B, modulo 1", 3, 1, 2, &even, &odd, 2, &half, &mut f);
+}
+
+// A y - 2x = 1, that y is odd; B 8x - 4y ≡ 0 (mod 8), that y is even, where x does not occur.
+fn seeming_modulo_eight() {
+    let a = [-2, 1, 1, 0];
+    let b = [8, -4, 0, 8];
+    let p = [4, 1];
+    let mut f = [7, 7];
+    // x: -8, y: 4, K = 4. x is A-local, so M = 8: y ≡ 1 (mod 2), by g = 4.
+    line(b"8*x1 in B, modulo 8", 2, 1, 1, &a, &b, 8, &p, &mut f);
+    let turned = [1, 4];
+    // x: 8, y: -4, K = 0, M = 8. x does not occur in A, so it is not shared: -y ≡ 0 (mod 2), by g = 4.
+    line(b"8*x1 in A, modulo 8", 2, 1, 1, &b, &a, 8, &turned, &mut f);
 }
 
 // The normal form of an equation.
@@ -534,6 +556,8 @@ fn examples() {
 
 fn facts() {
     choices();
+    seeming();
+    seeming_modulo_eight();
     equations();
     empty_sides();
     ends();

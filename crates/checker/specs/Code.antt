@@ -19,7 +19,7 @@ use Rattle.integers.specs.Gcd.{gcdFrom}
 use Rattle.integers.specs.Run.{at}
 use Rattle.problem.specs.Rows.{sideOf}
 use Rattle.problem.specs.WellFormed.{million, WellFormed}
-use Rattle.problem.specs.Occurrence.{shared, localA}
+use Rattle.problem.specs.Occurrence.{occurs, shared, localA}
 use Rattle.checker.specs.Refutation.{columnSum, numerator, Numerators}
 use Rattle.checker.specs.Fact.{Fact}
 use Rattle.checker.specs.NormalForm.{falseFact, divided, firstNonzero, signBy, residue, unitBy}
@@ -54,10 +54,10 @@ pub record Weighable (n ma mb : ℕ) (a b p : List ℤ) : Type 0 where
 
 module _ (n ma mb : ℕ) (a b p : List ℤ) (j : ℕ) where
   abbrev pub sharedSum : ℤ
-  sharedSum = cond (shared (sideOf n ma a) (sideOf n mb b) j) (columnSum (sideOf n ma a) (numerator p) j) (pos 0)
+  sharedSum = cond (shared (occurs (sideOf n ma a)) (occurs (sideOf n mb b)) j) (columnSum (sideOf n ma a) (numerator p) j) (pos 0)
 
   abbrev pub localSum : ℤ
-  localSum = cond (localA (sideOf n ma a) (sideOf n mb b) j) (columnSum (sideOf n ma a) (numerator p) j) (pos 0)
+  localSum = cond (localA (occurs (sideOf n ma a)) (occurs (sideOf n mb b)) j) (columnSum (sideOf n ma a) (numerator p) j) (pos 0)
 
 -- The normal form ------------------------------------------------------------------------------------------------------
 

@@ -14,6 +14,7 @@ use Rattle.integers.specs.Range.{isZero, isNegative}
 use Rattle.integers.specs.Divisibility.{divides}
 use Rattle.integers.specs.Gcd.{gcdFrom}
 use Rattle.problem.specs.Rows.{Rows}
+use Rattle.problem.specs.Occurrence.{occurs}
 use Rattle.checker.specs.Fact.{Fact, rawFact}
 
 abbrev pub trueFact : Fact
@@ -74,4 +75,4 @@ unfoldable pub normalForm : ℕ → Fact → Fact
 normalForm n f = normalBy (isZero (f .modulus)) n f
 
 abbrev pub interpolantOf : ℕ → Rows → Rows → (ℕ → ℤ) → Fact
-interpolantOf n A B p = normalForm n (rawFact n A B p)
+interpolantOf n A B p = normalForm n (rawFact n (occurs A) (occurs B) A p)

@@ -8,10 +8,11 @@
 --     IsNormal n f          f is TRUE, or FALSE, or an equality without common factor and with its first nonzero coefficient
 --                           positive, or a congruence modulo 2 or more without common factor, all else in 0..modulus − 1
 --     Demand                demand 2 of one call of `judge` whose vector is accepted
---     Completes             integers at the A-local variables, and one for each row, that make A's weighted row true
+--     Completes             integers at the A-local variables, and one for each row, that make A's weighted row true; inA and inB say which
+--                           variables occur in A and in B
 use mathlib.Core.Path.{_≡_}
 use mathlib.Core.List.{List}
-use mathlib.Core.Bool.{true, false}
+use mathlib.Core.Bool.{Bool, true, false}
 use Prim.Native.Nat.{ℕ, _+_, _<_}
 use lib.IntN.{ℤ, pos, _+ℤ_, _*ℤ_}
 use lib.Signed.{_≤ℤ_, _<ℤ_}
@@ -22,7 +23,7 @@ use Rattle.integers.specs.Run.{tabulate}
 use Rattle.problem.specs.Rows.{Rows, sideOf, rowsOf}
 use Rattle.problem.specs.Points.{Meets}
 use Rattle.problem.specs.WellFormed.{Shape, WellFormed}
-use Rattle.problem.specs.Occurrence.{shared, localA}
+use Rattle.problem.specs.Occurrence.{occurs, shared, localA}
 use Rattle.checker.specs.Refutation.{columnSum, constantSum, Refutes, numerator, Vector, Numerators}
 use Rattle.checker.specs.Fact.{Fact, Holds}
 use Rattle.checker.specs.NormalForm.{firstNonzero}
@@ -66,10 +67,10 @@ pub data IsNormal (n : ℕ) (f : Fact) : Type 0 where
 
 -- y is X but at the A-local variables, where it has any integers, and v has an integer for each row, so that
 -- S·y + the sum of p × l × v is K. An equation's l is 0, so that only a congruence's v counts.
-pub record Completes (n : ℕ) (A B : Rows) (p X : ℕ → ℤ) : Type 0 where
+pub record Completes (n : ℕ) (inA inB : ℕ → Bool) (A : Rows) (p X : ℕ → ℤ) : Type 0 where
   pub y : ℕ → ℤ
   pub v : ℕ → ℤ
-  pub keeps : (j : ℕ) → j < n → localA A B j ≡ false → y j ≡ X j
+  pub keeps : (j : ℕ) → j < n → localA inA inB j ≡ false → y j ≡ X j
   pub row : dot n (columnSum A p) y +ℤ dot (A .m) (λ i. p i *ℤ A .modulus i) v ≡ constantSum A p
 
 -- `entry` is the lent run as the call finds it
@@ -96,6 +97,6 @@ module _ (n ma mb : ℕ) (a b : List ℤ) (q : ℤ) (p entry : List ℤ) where
     pub implied : (X : ℕ → ℤ) → Meets n A X → Holds n fact X
     pub excluded : (X : ℕ → ℤ) → Meets n B X → Holds n fact X → ⊥
     -- only variables that occur in both carry a coefficient
-    pub only-shared : (j : ℕ) → (fact .coef j ≡ pos 0 → ⊥) → shared A B j ≡ true
+    pub only-shared : (j : ℕ) → (fact .coef j ≡ pos 0 → ⊥) → shared (occurs A) (occurs B) j ≡ true
     -- and it loses nothing of A's weighted row: the largest modulus
-    pub projected : (X : ℕ → ℤ) → (Completes n A B (numerator p) X → Holds n fact X) × (Holds n fact X → Completes n A B (numerator p) X)
+    pub projected : (X : ℕ → ℤ) → let completed = Completes n (occurs A) (occurs B) A (numerator p) X in (completed → Holds n fact X) × (Holds n fact X → completed)

@@ -266,14 +266,18 @@ fn shared_sum(
     integers::gcd(g, integers::magnitude(kept(only_first(in_a, in_b), total)))
 }
 
-// Whether variable j occurs in a side.
+// Whether variable j occurs in a side: whether its coefficient counts in some row.
 fn occurs(n: usize, m: usize, run: &[i64], j: usize) -> bool
     requires { ⌜ (n ≤ 12) × (m ≤ 12) × (j < n) ⌝ }
     ensures { λ r. ⌜ r ≡ occurs (sideOf n m (now (run .entry))) j ⌝ }
 {
     let mut i: usize = 0;
     while i < m {
-        if !integers::is_zero(integers::at(run, i * (n + 2) + j)) {
+        let start = i * (n + 2);
+        if problem::counts(
+            integers::at(run, start + n + 1),
+            integers::at(run, start + j),
+        ) {
             return true;
         }
         i += 1;

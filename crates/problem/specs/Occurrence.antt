@@ -1,26 +1,30 @@
 -- Which variables occur where.
 --
---     occurs R j        "A variable occurs in a side if some row there has a nonzero coefficient for it."
---     shared A B j      "It is shared if it occurs in both,
---     localA A B j      A-local if only in A."
+--     counts l c          whether coefficient c makes its variable occur in a row with modulus l: whether l does not divide c; in an
+--                         equation, l = 0, whether c is not 0
+--     occurs R j          whether variable j occurs in some row of a side
+--     shared inA inB j    "It is shared if it occurs in both,
+--     localA inA inB j    A-local if only in A.", where inA and inB say which variables occur in A and in B
 --
--- What is known of `occurs` beyond this file is one law, `absent` of proofs/Laws/Occurrence.antt.
+-- The rule for a row is the article's, section 2, the paragraphs on LDEs and on LMEs: "A variable xi is said to occur in the LDE if
+-- ci ≠ 0", "A variable xi is said to occur in a LME if l does not divide ci".
+--
+-- What the proofs use of `occurs` beyond this file is one law, `absent` of proofs/Laws/Occurrence.antt.
 use mathlib.Core.Bool.{Bool, not, _&&_}
 use Prim.Native.Nat.{ℕ}
 use lib.IntN.{ℤ}
-use Rattle.integers.specs.Range.{isZero}
+use Rattle.integers.specs.Divisibility.{divides}
 use Rattle.integers.specs.Below.{anyBelow}
 use Rattle.problem.specs.Rows.{Rows}
 
--- whether a coefficient c in a row with modulus l makes its variable occur; the modulus does not matter
 abbrev pub counts : ℤ → ℤ → Bool
-counts l c = not (isZero c)
+counts l c = not (divides l c)
 
 unfoldable pub occurs : Rows → ℕ → Bool
 occurs R j = anyBelow (R .m) (λ i. counts (R .modulus i) (R .coef i j))
 
-abbrev pub shared : Rows → Rows → ℕ → Bool
-shared A B j = occurs A j && occurs B j
+abbrev pub shared : (ℕ → Bool) → (ℕ → Bool) → ℕ → Bool
+shared inA inB j = inA j && inB j
 
-abbrev pub localA : Rows → Rows → ℕ → Bool
-localA A B j = occurs A j && not (occurs B j)
+abbrev pub localA : (ℕ → Bool) → (ℕ → Bool) → ℕ → Bool
+localA inA inB j = inA j && not (inB j)

@@ -1,8 +1,9 @@
-// The tests behind refusals 1 and 3, of a problem whose counts and runs come from anywhere.
+// The tests behind refusals 1 and 3, of a problem whose counts and runs come from anywhere, and that of occurrence in a row.
 ghost use mathlib.Core.Path.{_≡_};
 ghost use Prim.Native.Nat.{_<_, _≤_};
 ghost use Rattle.problem.specs.Rows.{sideOf};
 ghost use Rattle.problem.specs.WellFormed.{shape, rowInRange, inRanges, wellFormed};
+ghost use Rattle.problem.specs.Occurrence.{counts};
 
 // Whether the counts and the lengths of the two sides are as they should be: refusal 1 is given where they are not. A length
 // is computed only of counts that are known to be small.
@@ -71,4 +72,11 @@ pub fn well_formed(n: usize, ma: usize, mb: usize, a: &[i64], b: &[i64]) -> bool
         return false;
     }
     in_ranges(n, mb, b)
+}
+
+// Whether a coefficient makes its variable occur in a row with this modulus: whether the modulus does not divide it.
+pub fn counts(modulus: i64, coefficient: i64) -> bool
+    ensures { λ r. ⌜ r ≡ counts modulus coefficient ⌝ }
+{
+    !integers::divides(modulus, coefficient)
 }

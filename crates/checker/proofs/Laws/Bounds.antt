@@ -22,7 +22,7 @@ use Rattle.integers.proofs.Laws.Sum.{dot-bound}
 use Rattle.integers.proofs.Laws.Gcd.{gcdFrom-natural, gcdFrom-le}
 use Rattle.problem.specs.Rows.{Rows, sideOf}
 use Rattle.problem.specs.WellFormed.{million}
-use Rattle.problem.specs.Occurrence.{shared, localA}
+use Rattle.problem.specs.Occurrence.{occurs, shared, localA}
 use Rattle.checker.specs.Refutation.{columnSum, numerator}
 use Rattle.checker.specs.Fact.{modulusOf, rawFact}
 use Rattle.checker.specs.Code.{Weighable, localSum, largest, Small}
@@ -55,22 +55,22 @@ module _ (n ma mb : ℕ) (a b p : List ℤ) (w : Weighable n ma mb a b p) where
   column-small j l = dot-small ma (numerator p) (λ i. A .coef i j) few numerator-in (λ i k. w .well-formed .ranges-a .row i k .coef-in j l)
 
   pub local-small : natAbs (gcdFrom (pos 0) n (localSum n ma mb a b p)) ≤ largest
-  local-small = gcdFrom-le (pos 0) n (localSum n ma mb a b p) largest (omega arith) (λ j l. kept-small (localA A B j) (columnSum A (numerator p) j) (column-small j l))
+  local-small = gcdFrom-le (pos 0) n (localSum n ma mb a b p) largest (omega arith) (λ j l. kept-small (localA (occurs A) (occurs B) j) (columnSum A (numerator p) j) (column-small j l))
 
   modulus-small : (i : ℕ) → i < ma → natAbs (numerator p i *ℤ A .modulus i) ≤ largest
   modulus-small i l = omega (arith, mul-bound (numerator p i) (A .modulus i) (numerator-in i l) (w .well-formed .ranges-a .row i l .modulus-in))
 
-  pub raw-small : Small largest n (rawFact n A B (numerator p))
+  pub raw-small : Small largest n (rawFact n (occurs A) (occurs B) A (numerator p))
   unfolding modulusOf
   raw-small = record {
-    coefs = λ j l. kept-small (shared A B j) (columnSum A (numerator p) j) (column-small j l);
+    coefs = λ j l. kept-small (shared (occurs A) (occurs B) j) (columnSum A (numerator p) j) (column-small j l);
     const = dot-small ma (numerator p) (A .const) few numerator-in (λ i l. w .well-formed .ranges-a .row i l .const-in);
     modulus = gcdFrom-le (gcdFrom (pos 0) n (localSum n ma mb a b p)) ma (λ i. numerator p i *ℤ A .modulus i) largest local-small modulus-small;
   }
 
-pub modulus-low : (n : ℕ) (A B : Rows) (p : ℕ → ℤ) → pos 0 ≤ℤ modulusOf n A B p
+pub modulus-low : (n : ℕ) (inA inB : ℕ → Bool) (A : Rows) (p : ℕ → ℤ) → pos 0 ≤ℤ modulusOf n inA inB A p
 unfolding modulusOf
-modulus-low n A B p =
-    let g = gcdFrom-natural 0 n (λ j. cond (localA A B j) (columnSum A p j) (pos 0)) in
+modulus-low n inA inB A p =
+    let g = gcdFrom-natural 0 n (λ j. cond (localA inA inB j) (columnSum A p j) (pos 0)) in
     let m = gcdFrom-natural (g .0) (A .m) (λ i. p i *ℤ A .modulus i) in
     subst (λ x. pos 0 ≤ℤ x) (sym (ap (λ x. gcdFrom x (A .m) (λ i. p i *ℤ A .modulus i)) (g .1) ∙ m .1)) (parts-le (pos 0) (pos (m .0)) (omega arith))

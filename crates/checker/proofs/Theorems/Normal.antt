@@ -11,6 +11,7 @@ use Prim.Native.Nat.{ℕ}
 use lib.IntN.{ℤ, pos}
 use lib.Signed.{_≤ℤ_}
 use Rattle.problem.specs.Rows.{Rows}
+use Rattle.problem.specs.Occurrence.{occurs}
 use Rattle.checker.specs.Fact.{Fact, rawFact}
 use Rattle.checker.specs.NormalForm.{normalForm, interpolantOf}
 use Rattle.checker.specs.Promises.{Same, IsNormal}
@@ -26,8 +27,8 @@ module _ (n : ℕ) (f : Fact) where
   normal-form = Form.normal-form n f
 
 module _ (n : ℕ) (A B : Rows) (p : ℕ → ℤ) where
-  pub interpolant-same : Same n (interpolantOf n A B p) (rawFact n A B p)
-  interpolant-same = normal-same n (rawFact n A B p)
+  pub interpolant-same : Same n (interpolantOf n A B p) (rawFact n (occurs A) (occurs B) A p)
+  interpolant-same = normal-same n (rawFact n (occurs A) (occurs B) A p)
 
   pub interpolant-form : IsNormal n (interpolantOf n A B p)
-  interpolant-form = normal-form n (rawFact n A B p) (modulus-low n A B p)
+  interpolant-form = normal-form n (rawFact n (occurs A) (occurs B) A p) (modulus-low n (occurs A) (occurs B) A p)

@@ -14,6 +14,7 @@ use Rattle.integers.proofs.Laws.Bits.{stored, stored-is}
 use Rattle.integers.proofs.Laws.Gcd.{gcdFrom-abs}
 use Rattle.integers.proofs.Laws.Run.{tabulate-length, tabulate-at, tabulate-ext}
 use Rattle.problem.specs.Rows.{Rows, sideOf}
+use Rattle.problem.specs.Occurrence.{occurs}
 use Rattle.checker.specs.Refutation.{numerator}
 use Rattle.checker.specs.Fact.{Fact, modulusOf, rawFact}
 use Rattle.checker.specs.Answer.{interpolantFor}
@@ -37,7 +38,7 @@ module _ (s : tie.Start) where
   p = numerator (s .args .p .now)
 
   abbrev raw : Fact
-  raw = rawFact (s .args .n) A B p
+  raw = rawFact (s .args .n) (occurs A) (occurs B) A p
 
   abbrev sharedAt : ℕ → ℤ
   sharedAt = sharedSum (s .args .n) (s .args .ma) (s .args .mb) (s .args .a .now) (s .args .b .now) (s .args .p .now)
@@ -110,7 +111,7 @@ normalise-requires c κs =
         const = subst (λ x. natAbs x ≤ largest) (sym (e .const)) (r .const);
         modulus = subst (λ x. natAbs x ≤ largest) (sym (e .modulus)) (r .modulus);
       },
-      subst (λ x. pos 0 ≤ℤ x) (sym (e .modulus)) (modulus-low (s .args .n) (A s) (B s) (p s)),
+      subst (λ x. pos 0 ≤ℤ x) (sym (e .modulus)) (modulus-low (s .args .n) (occurs (A s)) (occurs (B s)) (A s) (p s)),
     )
 
 same-length : tie.Need-same-length

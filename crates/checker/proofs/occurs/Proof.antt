@@ -1,10 +1,9 @@
--- `checker::occurs` meets its contract: in the rows passed the coefficient is 0. Assumes nothing.
-use mathlib.Core.Path.{_≡_, sym, _∙_, ap}
-use mathlib.Core.Bool.{Bool, false, not}
+-- `checker::occurs` meets its contract: in the rows passed the coefficient does not count. Assumes nothing.
+use mathlib.Core.Path.{_≡_, sym, _∙_, ap₂}
+use mathlib.Core.Bool.{Bool, false}
 use Prim.Native.Nat.{ℕ, _+_, _*_, _-_, _≤_}
 use native.Mathlib.Nat.{mul-le-mul}
 use native.Mathlib.Omega.{arith}
-use Rattle.integers.specs.Range.{isZero}
 use Rattle.integers.specs.Below.{anyBelow}
 use Rattle.integers.proofs.Laws.Bits.{stored-is}
 use Rattle.integers.proofs.Laws.Below.{any-none, any-onward, any-stop, any-end}
@@ -22,8 +21,11 @@ abbrev μ-loop : tie.MeasureT-loop
 abbrev test : tie.Start Inv-loop μ-loop → ℕ → Bool
 test s k = counts (sideOf (s .args .n) (s .args .m) (s .args .run .now) .modulus k) (sideOf (s .args .n) (s .args .m) (s .args .run .now) .coef k (s .args .j))
 
-tested : (c : tie.After-is-zero Inv-loop μ-loop) → not (c .is-zero .result) ≡ test (c .before .before .before .before) (c .before .before .before .loop .i)
-tested c = ap not (c .is-zero .ensures ∙ ap isZero (stored-is (record { sfits = c .before .at .ok }) ∙ c .before .at .ensures))
+tested : (c : tie.After-counts Inv-loop μ-loop) → let l = c .before .before .before .before in c .counts .result ≡ test (l .before) (l .loop .i)
+tested c =
+    let coefficient = c .before .at2 in
+    let modulus = c .before .before .at in
+    c .counts .ensures ∙ ap₂ counts (stored-is (record { sfits = modulus .ok }) ∙ modulus .ensures) (stored-is (record { sfits = coefficient .ok }) ∙ coefficient .ensures)
 
 place-small : (c : tie.In-loop Inv-loop μ-loop) → c .before .loop .i * (c .before .before .args .n + 2) ≤ 168
 place-small c =
@@ -34,11 +36,14 @@ place-small c =
 loop-holds : tie.Need-loop-holds Inv-loop μ-loop
 loop-holds c = (omega arith, any-none (test c))
 
-add-at : tie.Need-add-at Inv-loop μ-loop
-add-at c = omega arith
+add-start : tie.Need-add-start Inv-loop μ-loop
+add-start c = omega arith
 
-mul-at : tie.Need-mul-at Inv-loop μ-loop
-mul-at c = omega (arith, place-small c)
+mul-start : tie.Need-mul-start Inv-loop μ-loop
+mul-start c = omega (arith, place-small c)
+
+add-at : tie.Need-add-at Inv-loop μ-loop
+add-at c = omega (arith, place-small c)
 
 add-at-2 : tie.Need-add-at-2 Inv-loop μ-loop
 add-at-2 c = omega (arith, place-small c)
@@ -46,14 +51,20 @@ add-at-2 c = omega (arith, place-small c)
 at-requires : tie.Need-at-requires Inv-loop μ-loop
 at-requires c κs = tt
 
-is-zero-requires : tie.Need-is-zero-requires Inv-loop μ-loop
-is-zero-requires c κs = tt
+add-at-3 : tie.Need-add-at-3 Inv-loop μ-loop
+add-at-3 c = omega (arith, place-small (c .before))
+
+at-requires-2 : tie.Need-at-requires-2 Inv-loop μ-loop
+at-requires-2 c κs = tt
+
+counts-requires : tie.Need-counts-requires Inv-loop μ-loop
+counts-requires c κs = tt
 
 returns : tie.Need-returns Inv-loop μ-loop
 unfolding occurs
 returns c =
-    let l = c .before .before .before .before in
-    any-stop (l .before .args .m) (test (l .before)) (l .loop .i) (c .before .before .before .loop-test .taken) (sym (tested (c .before)) ∙ c .if1 .taken)
+    let l = c .before .before .before .before .before in
+    any-stop (l .before .args .m) (test (l .before)) (l .loop .i) (c .before .before .before .before .loop-test .taken) (sym (tested (c .before)) ∙ c .if1 .taken)
 
 add-i : tie.Need-add-i Inv-loop μ-loop
 add-i c = omega arith
@@ -63,7 +74,7 @@ loop-less c = omega arith
 
 loop-again : tie.Need-loop-again Inv-loop μ-loop
 loop-again c =
-    let l = c .before .before .before .before in
+    let l = c .before .before .before .before .before in
     (omega arith, any-onward (l .before .args .m) (test (l .before)) (l .loop .i) (l .loop .inv .1) (sym (tested (c .before)) ∙ c .if1 .left))
 
 returns-2 : tie.Need-returns-2 Inv-loop μ-loop
@@ -77,11 +88,14 @@ occurs-spec =
     Inv-loop
     μ-loop
     loop-holds
+    add-start
+    mul-start
     add-at
-    mul-at
     add-at-2
     at-requires
-    is-zero-requires
+    add-at-3
+    at-requires-2
+    counts-requires
     returns
     add-i
     loop-less
