@@ -243,7 +243,7 @@ fn shared_sums(
     g
 }
 
-// Writes place j, and takes the sum into the gcd if variable j is A-local.
+// Writes place j, and takes the sum into the gcd if variable j is A-local. A sum of 0 is the same for all, wherever its variable occurs.
 fn shared_sum(
     n: usize,
     ma: usize,
@@ -260,6 +260,10 @@ fn shared_sum(
     ensures { λ r. ⌜ now (coeffs .exit) ≡ set (now (coeffs .entry)) j (sharedSum n ma mb (now (a .entry)) (now (b .entry)) (now (p .entry)) j) ⌝ }
 {
     let total = column_sum(n, ma, a, p, 0, j);
+    if integers::is_zero(total) {
+        coeffs[j] = 0;
+        return g;
+    }
     let in_a = occurs(n, ma, a, j);
     let in_b = occurs(n, mb, b, j);
     coeffs[j] = kept(both(in_a, in_b), total);
