@@ -67,9 +67,10 @@ typedef struct {
  *
  * Where the refusal is 0, the vector's interpolant is given in normal form: its coefficients are written into `coeffs`, its constant
  * and modulus are answered. The fact is coefficients * x = constant, modulo the modulus unless that is 0. Every integer point of A
- * meets it, none of B does, and only variables that occur in both sides have a coefficient other than 0. TRUE is all zeros; FALSE is
- * all zeros with constant 1; both have modulus 0. Otherwise the modulus is 0 and the first nonzero coefficient is positive, or it is 2
- * or more and all numbers lie in 0..modulus - 1. A refusal leaves `coeffs` as it was. */
+ * meets it, none of B does, and only variables that occur in both sides have a coefficient other than 0. A variable occurs in an
+ * equation if its coefficient is not 0, and in a congruence if the modulus does not divide its coefficient. TRUE is all zeros; FALSE
+ * is all zeros with constant 1; both have modulus 0. Otherwise the modulus is 0 and the first nonzero coefficient is positive, or it is
+ * 2 or more and all numbers lie in 0..modulus - 1. A refusal leaves `coeffs` as it was. */
 vayalittu_fact vayalittu_judge(size_t n, size_t ma, size_t mb, const int64_t *a, size_t a_len, const int64_t *b, size_t b_len,
                                int64_t q, const int64_t *p, size_t p_len, int64_t *coeffs, size_t coeffs_len);
 

@@ -1,10 +1,11 @@
-"""What the checker answers, written from the paper alone, to be compared with the proved code.
+"""What the checker answers, written from the paper, as the changes of docs/changes have it, to be compared with the proved code.
 
 meets(n, rows, X)         whether the point X meets every row; true for no rows
 judge(.., q, p, length)   for a vector that refutes (coefficients, constant, modulus) in normal form, else the refusal, 1 to 7
 
 The arguments are n, ma, mb, a, b, q, p as in the checker: sides are flat runs, a row n coefficients, d and l; `length` is
-that of the run lent for the coefficients. The indented sentences are the paper's. Run as a program, the file tests itself.
+that of the run lent for the coefficients. The indented sentences are the paper's and those of the changes. Run as a program, the
+file tests itself.
 """
 
 import itertools
@@ -211,7 +212,7 @@ def is_normal(coefficients, constant, modulus):
 
 
 def changes(n, side, j):
-    """Whether a step of variable j alone changes the left side of a row, modulo its modulus: what occurrence means, without its rule."""
+    """Whether a step of variable j alone changes what some row says: occurrence, read from `meets`."""
     step = [int(k == j) for k in range(n)]
     return not all(meets(n, c + [0, l], step) for c, _, l in rows_of(n, side))
 

@@ -289,13 +289,13 @@ fn choices() {
 fn seeming() {
     let even = [1, -2, 0, 0, 0];
     let sum = [1, 2, 0, 1, 2];
-    // 2y does not occur modulo 2, so y is A-local. x: 1, y: -2, K = 0, M = 2.
+    // Modulo 2, y does not occur in x + 2y, so y is A-local. x: 1, y: -2, K = 0, M = 2.
     halved(b"2*x2 in B, modulo 2", &even, &sum);
-    let odd = [1, 0, -2, 1, 0, 0, 1, 0, 0, 1];
+    let b = [1, 0, -2, 1, 0, 0, 1, 0, 0, 1];
     let half = [1, 1, 0];
     let mut f = [7, 7, 7];
-    // Nor does y modulo 1, in a row without weight. x: 1, y: -2, K = 0, M = 2.
-    line(b"x2 in B, modulo 1", 3, 1, 2, &even, &odd, 2, &half, &mut f);
+    // Modulo 1, y does not occur in y ≡ 0, which has no weight here. x: 1, y: -2, K = 0, M = 2.
+    line(b"x2 in B, modulo 1", 3, 1, 2, &even, &b, 2, &half, &mut f);
 }
 
 // A y - 2x = 1, that y is odd; B 8x - 4y ≡ 0 (mod 8), that y is even, where x does not occur.

@@ -4,6 +4,7 @@
 --                 judge-number-is                      and so the answer has its number
 --     Refuted     no-point  refuted                    an accepted vector leaves no point that meets both sides
 --     Implied     implied  excluded  only-shared       A implies the interpolant, B excludes it, it has shared variables only
+--                 left-out                             M divides A's column sums at the others
 --     Normal      normal-same  normal-form             the normal form says the same as the fact, and is normal
 --                 interpolant-same  interpolant-form   so does, and so is, the interpolant
 --     Largest     projected                            the interpolant loses nothing of A's weighted row

@@ -1,5 +1,5 @@
--- "The largest modulus they allow": the raw fact, by any two tests of occurrence of which that for A says `Absent`, says exactly that A's
--- weighted row can be completed.
+-- "The largest modulus they allow": the raw fact says exactly that A's weighted row can be completed. Of the test inA
+-- no more is known than `Absent`, of inB nothing.
 --
 --     completed-holds    where there is a completion, the raw fact holds
 --     holds-completed    where the raw fact holds, there is a completion

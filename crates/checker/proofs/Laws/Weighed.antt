@@ -1,6 +1,6 @@
 -- What a vector makes of rows, and what follows for a point that meets them.
 --
---     Rows            absent-column    what divides each p × l divides the column sum of a variable whose coefficients are congruent to 0
+--     Rows            absent-column    what divides each p × l divides a column sum, if each row's modulus divides the coefficient there
 --                     weighted         a point that meets the rows meets their weighted sum, modulo what divides each p × l
 --                     no-point         where a vector refutes, no point meets the rows
 --     Both sides      beyond           B's numerators, which stand after A's
@@ -8,7 +8,7 @@
 --                     both-constant    so is the sum of p × d
 --                     moduli-a         what divides each p × l of all rows divides it in A's
 --                     moduli-b         and in B's
---     Raw fact        by any two tests of occurrence that say `Absent` of A and, for the last law, of B
+--     Raw fact        for tests of occurrence of which no more is known than `Absent`
 --                     M-moduli         its modulus M divides p × l in each row of A
 --                     M-column         M divides A's column sum at an A-local variable
 --                     M-absent         and at one that does not occur in A, where it need not be 0

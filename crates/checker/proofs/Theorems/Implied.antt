@@ -3,8 +3,8 @@
 --     implied        it holds at every point that meets A
 --     excluded       it holds at no point that meets B
 --     only-shared    a variable whose coefficient is not 0 is shared
---     left-out       at a variable that is not shared M divides A's column sum, so that leaving it out changes the fact by nothing that
---                    M does not take up; the variable need not occur in A for that sum to be other than 0
+--     left-out       at a variable that is not shared M divides A's column sum, which may be other than 0 though the variable does not
+--                    occur in A
 --
 -- Assumes nothing.
 use mathlib.Core.Path.{_≡_, refl, ap}

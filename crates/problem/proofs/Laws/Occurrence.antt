@@ -4,7 +4,7 @@
 --     counts-equation    in an equation: where the coefficient is not 0
 --     counts-unit        modulo 1: nowhere
 --     Absent inR R       what a test of occurrence has to say: where variable j does not occur, each row's modulus divides its coefficient
---     absent             `occurs R` does, and nothing else is used of it
+--     absent             `occurs R` does; the checker's theorems use nothing else of it
 --
 -- Assumes nothing.
 use mathlib.Core.Path.{_≡_, refl, ap}
