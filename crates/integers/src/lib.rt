@@ -1,5 +1,7 @@
 // What every crate above shares: signs, magnitudes, ranges, divisibility, the greatest common divisor, and the places of a run.
 // Each function takes any numbers.
+#![tactic(auto)]
+
 ghost use Rattle.std.specs.Prelude.{◌≡◌, nat_abs};
 ghost use Rattle.integers.specs.Range.{is_zero, is_negative, within};
 ghost use Rattle.integers.specs.Divisibility.{divides};

@@ -1,4 +1,6 @@
 // The tests behind refusals 1 and 3, of a problem whose counts and runs come from anywhere, and that of occurrence in a row.
+#![tactic(auto)]
+
 ghost use Rattle.std.specs.Prelude.{◌≡◌, ◌<◌, ◌≤◌};
 ghost use Rattle.problem.specs.Rows.{side_of};
 ghost use Rattle.problem.specs.WellFormed.{shape, row_in_range, in_ranges, well_formed};

@@ -19,7 +19,7 @@
 use mathlib.Core.Path.{◌≡◌, refl, sym, ◌∙◌, ap, subst}
 use mathlib.Core.List.{[], ◌∷◌}
 use Prim.Native.Nat.{ℕ, suc, ◌+◌, ◌*◌, ◌/◌, ◌%◌, ◌<◌, ◌≤◌}
-use native.Mathlib.Nat.{div-add-mod', mod-lt, mod-le, div-le_self, mul-le-mul_right, le-div_iff_mul-le, one_mul, mul-mod_left}
+use native.Mathlib.Nat.{div-add-mod', mod-lt, mod-le, div-le_self, mul-le-mul_right, le-div_iff_mul-le, one-mul, mul-mod_left}
 use native.Mathlib.Omega.{arith}
 use lib.IntN.{ℤ, pos, negsuc, neg_ℤ, nat_abs, ◌+ℤ◌, ◌-ℤ◌, ◌*ℤ◌, neg_ℤ-+ℤ, neg_ℤ-neg_ℤ}
 use lib.Signed.{quot_z, rem_z, ◌≤ℤ◌}
@@ -74,7 +74,7 @@ rem_lt a b h = omega (arith, nat_abs_rem a b, mod-lt (nat_abs a) h)
 
 mod_halves : (a b : ℕ) → 0 < b → b ≤ a → 2 * (a % b) < a
 mod_halves a b h k =
-    let one : 1 ≤ a / b = (le-div_iff_mul-le {x = 1} h).1 (subst (λ (n : ℕ). n ≤ a) (sym (one_mul b)) k) in
+    let one : 1 ≤ a / b = (le-div_iff_mul-le {x = 1} h).1 (subst (λ (n : ℕ). n ≤ a) (sym (one-mul b)) k) in
     omega (arith, div-add-mod' a b, mod-lt a h, mul-le-mul_right b one)
 
 pub rem_halves : (a b : ℤ) → 0 < nat_abs b → nat_abs b ≤ nat_abs a → 2 * nat_abs (rem_z a b) < nat_abs a

@@ -239,19 +239,19 @@ read_negsuc n t = record { read = literal (negsuc n); is = refl }
 
 -- sums, products and successors of naturals under `pos`, to which those of `pos` terms compute
 abbrev pub read_pos-add : {ρ : List ℤ} (m n : ℕ) → Reading ρ (pos m) → Reading ρ (pos n) → Reading ρ (pos (m + n))
-read_pos-add m n a b = record { read = (a.read ⊕ b).read; is = ap₂ (λ u v. u +ℤ v) a.is b.is }
+read_pos-add m n a b = record { read = a.read ⊕ b.read; is = ap₂ (λ u v. u +ℤ v) a.is b.is }
 
 abbrev pub read_pos-mul : {ρ : List ℤ} (m n : ℕ) → Reading ρ (pos m) → Reading ρ (pos n) → Reading ρ (pos (m * n))
-read_pos-mul m n a b = record { read = (a.read ⊗ b).read; is = ap₂ (λ u v. u *ℤ v) a.is b.is }
+read_pos-mul m n a b = record { read = a.read ⊗ b.read; is = ap₂ (λ u v. u *ℤ v) a.is b.is }
 
 abbrev pub read_pos-suc : {ρ : List ℤ} (n : ℕ) → Reading ρ (pos n) → Reading ρ (pos (suc n))
-read_pos-suc n a = record { read = (literal (pos 1) ⊕ a).read; is = ap (λ u. pos 1 +ℤ u) a.is ∙ ap pos (one-add n) }
+read_pos-suc n a = record { read = literal (pos 1) ⊕ a.read; is = ap (λ u. pos 1 +ℤ u) a.is ∙ ap pos (one-add n) }
 
 abbrev pub read_add : {ρ : List ℤ} (x y : ℤ) → Reading ρ x → Reading ρ y → Reading ρ (x +ℤ y)
-read_add x y a b = record { read = (a.read ⊕ b).read; is = ap₂ (λ u v. u +ℤ v) a.is b.is }
+read_add x y a b = record { read = a.read ⊕ b.read; is = ap₂ (λ u v. u +ℤ v) a.is b.is }
 
 abbrev pub read_mul : {ρ : List ℤ} (x y : ℤ) → Reading ρ x → Reading ρ y → Reading ρ (x *ℤ y)
-read_mul x y a b = record { read = (a.read ⊗ b).read; is = ap₂ (λ u v. u *ℤ v) a.is b.is }
+read_mul x y a b = record { read = a.read ⊗ b.read; is = ap₂ (λ u v. u *ℤ v) a.is b.is }
 
 abbrev pub read_neg : {ρ : List ℤ} (x : ℤ) → Reading ρ x → Reading ρ (neg_ℤ x)
 read_neg x a = record { read = minus a.read; is = ap neg_ℤ a.is }
