@@ -1,4 +1,6 @@
 // A vector is accepted exactly when it refutes, and an accepted vector gives the interpolant of its problem.
+#![tactic(auto)]
+
 ghost use Rattle.std.specs.Prelude.{◌≡◌, not, cond, ◌&&◌, ℕ, ◌+◌, ◌<◌, ◌≤◌, length, set, pos, nat_abs, ◌+ℤ◌, ◌*ℤ◌, ◌≤ℤ◌};
 ghost use Rattle.integers.specs.Range.{is_negative};
 ghost use Rattle.integers.specs.Divisibility.{divides};
@@ -406,7 +408,7 @@ fn first_is_negative(coeffs: &[i64]) -> bool
 }
 
 // What is done to every coefficient alike.
-#[derive(Drop)]
+#[derive(Clone, Copy)]
 enum Change {
     Zero,
     Divide(i64),
