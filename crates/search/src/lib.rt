@@ -1,4 +1,6 @@
 // The search: the paper's machine, one step at a time.
+#![tactic(auto)]
+
 ghost use Rattle.std.specs.Prelude.{◌≡◌, true, false, not, cond, ◌&&◌, ◌+◌, ◌*◌, ◌-◌, ◌<◌, ◌≤◌, ◌^◌, eqb, ltb, get_or, set, ℤ, pos, nat_abs, neg_ℤ, ◌-ℤ◌, ◌*ℤ◌};
 ghost use Rattle.std.specs.Int.Signed.{quot_z, rem_z};
 ghost use Rattle.integers.specs.Range.{within};
@@ -18,7 +20,7 @@ ghost use Rattle.search.specs.Answer.{refusal_of, is_refuted, is_solved, written
 ghost use Rattle.search.specs.Code.{largest_sum, last_count, entered_row, entered_diagonal, Sound, Backable, Backs, Solvable, Vectorable, Closable};
 
 // How a search ended, or that it did not.
-#[derive(Drop)]
+#[derive(Clone, Copy)]
 pub enum Outcome {
     Unfinished,
     TooLarge,
@@ -27,28 +29,28 @@ pub enum Outcome {
 }
 
 // The count of steps beside the outcome.
-#[derive(Drop)]
+#[derive(Clone, Copy)]
 pub struct Answer {
     pub steps: u32,
     pub outcome: Outcome,
 }
 
 // What a search answers, or the number of a refusal before its first step.
-#[derive(Drop)]
+#[derive(Clone, Copy)]
 pub enum Reply {
     Refused(u8),
     Answered(Answer),
 }
 
 // What `table_after` answers.
-#[derive(Drop)]
+#[derive(Clone, Copy)]
 pub enum TableReply {
     Refused(u8),
     Copied,
 }
 
 // What of a problem stays through its search: variables, rows, columns in use, and the rows' constants.
-#[derive(Drop)]
+#[derive(Clone, Copy)]
 struct Given {
     n: usize,
     m: usize,
@@ -57,7 +59,7 @@ struct Given {
 }
 
 // A search after some steps.
-#[derive(Drop)]
+#[derive(Clone, Copy)]
 struct State {
     given: Given,
     cells: [i64; 864],
@@ -71,7 +73,7 @@ struct State {
 }
 
 // Numerators and denominator on the way, and whether all are in range.
-#[derive(Drop)]
+#[derive(Clone, Copy)]
 struct Vector {
     p: [i64; 12],
     q: i64,

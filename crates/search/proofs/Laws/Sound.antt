@@ -32,7 +32,7 @@ use Rattle.integers.proofs.Laws.Decide.{by_within}
 use Rattle.search.specs.Table.{bound, cell, Bounded, subtraction_fits, swap_columns}
 use Rattle.search.specs.State.{State, pivot_of}
 use Rattle.search.specs.Vector.{Vector, vector_of}
-use Rattle.search.specs.Step.{least, first_column, second_column, too_large, quotient, reduce_by, reduce_of, negate_by, swap_by, close_table, residual_of, place_of, solve_by, last_by, closed, passed, placed, place_by, go_on_by, refute_by, close_by, close_of, step_by, step_of}
+use Rattle.search.specs.Step.{first_column, second_column, too_large, quotient, reduce_by, reduce_of, negate_by, swap_by, close_table, residual_of, place_of, solve_by, last_by, closed, passed, placed, place_by, go_on_by, refute_by, close_by, close_of, step_by, step_of}
 use Rattle.search.specs.Run.{is_unfinished}
 use Rattle.search.specs.Code.{last_count, Sound, Reducible, Closable}
 use Rattle.search.proofs.Laws.Table.{subtract_length, subtract_other, subtract_bounded, swap_length, swap_second, swap_other, swap_bounded, negate_length, negate_cell, negate_other, negate_bounded, bounded_set}
