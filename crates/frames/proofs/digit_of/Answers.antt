@@ -1,15 +1,12 @@
--- `frames::digit_of` meets its contract: a digit is in one of two ranges, and in each the sum is its value. Assumes nothing.
 use mathlib.Core.Path.{◌≡◌, refl, sym}
 use mathlib.Core.Bool.{Bool, true, false, cond, true≢false}
 use Prim.Native.Nat.{ℕ, ◌+◌, ◌*◌, ◌-◌, ◌/◌, ◌%◌}
 use native.Mathlib.Omega.{arith}
-use borrow.Author.Rules.{rules}
 use borrow.Author.Tests.{ltb-true, ltb-false}
 use lib.Dec.{ltb}
 use Rattle.frames.specs.Hex.{is_digit, digit_of}
 use Rattle.frames.proofs.Laws.Hex.{digit_below}
-use Rattle.frames.proofs.digit_of.Statement.{statement}
-use Rattle.frames.proofs.digit_of.Tie as tie
+use Rattle.frames.proofs.digit_of.Goals as goal
 
 by_ranges : (c : ℕ) (r s t u : Bool) → ltb c 48 ≡ r → ltb c 58 ≡ s → ltb c 97 ≡ t → ltb c 103 ≡ u → cond r false (cond s true (cond t false u)) ≡ true →
     c % 16 + c / 64 * 9 ≡ cond r 0 (cond s (c - 48) (cond t 0 (cond u (c - 87) 0)))
@@ -23,17 +20,8 @@ sum_is : (c : ℕ) → is_digit c ≡ true → c % 16 + c / 64 * 9 ≡ digit_of 
 unfolding is_digit digit_of
 sum_is c d = by_ranges c (ltb c 48) (ltb c 58) (ltb c 97) (ltb c 103) refl refl refl refl d
 
-mul-result : tie.Need-overflow-mul-result
-mul-result c = search rules
-
-add-result : tie.Need-overflow-add-result
-add-result c = search rules
-
-cast-result : tie.Need-overflow-cast-result
-cast-result c = search rules
-
-returns : tie.Need-returns
-returns c = let e = sum_is c.args.c c.requires in (e, omega (arith, digit_below c.args.c))
-
-pub digit-of-spec : {M : Type 1} → statement M
-digit-of-spec = tie.close (tie.spec mul-result add-result cast-result returns)
+pub returns : goal.returns
+returns c = let e = sum_is c.args.c c.requires in record {
+  value = e;
+  upper_bound = omega (arith, digit_below c.args.c);
+}
