@@ -1,4 +1,6 @@
 // Lines: a stream of bytes, however it arrives in chunks, is cut into lines, and each line is answered.
+#![tactic(auto)]
+
 ghost use Rattle.std.specs.Prelude.{◌≡◌, ◌++◌, ◌+◌, ◌-◌, ◌≤◌, min, length, take, drop};
 ghost use Rattle.std.proofs.Math.Seq.{paste};
 ghost use Rattle.frames.specs.Answer.{respond_end, respond_run};
@@ -156,8 +158,8 @@ fn least(a: usize, b: usize) -> usize
 
 // Copies `count` bytes from place `from` of one run to place `to` of another.
 fn copy(source: &[u8], from: usize, target: &mut [u8], to: usize, count: usize)
-    requires count_in_bounds { from + count ≤ length source.now }
-    requires count_in_bounds_2 { to + count ≤ length target.old }
+    requires source_in_bounds { from + count ≤ length source.now }
+    requires target_in_bounds { to + count ≤ length target.old }
     ensures { target.new ≡ paste target.old to (drop from source.now) count }
 {
     let mut i = 0;
