@@ -1,4 +1,7 @@
-// The functions for C. include/vayalittu.h says what each means to a C program.
+// The functions for C, with answers that C can read; crate `vayalittu_c` exports them. include/vayalittu.h says what each means to a
+// C program.
+#![tactic(auto)]
+
 ghost use Rattle.std.specs.Prelude.{◌≡◌};
 ghost use Rattle.checker.specs.Answer.{judge_answer, judge_run};
 ghost use Rattle.search.specs.Answer.{search_reply, search_vector, search_point, table_reply, table_run, table_number};
@@ -25,8 +28,7 @@ pub struct Fact {
     pub modulus: i64,
 }
 
-#[unsafe(no_mangle)]
-pub extern "C" fn vayalittu_judge(
+pub fn vayalittu_judge(
     n: usize,
     ma: usize,
     mb: usize,
@@ -42,8 +44,7 @@ pub extern "C" fn vayalittu_judge(
     stated(checker::judge(n, ma, mb, a, b, q, p, coeffs))
 }
 
-#[unsafe(no_mangle)]
-pub extern "C" fn vayalittu_search(
+pub fn vayalittu_search(
     n: usize,
     ma: usize,
     mb: usize,
@@ -60,8 +61,7 @@ pub extern "C" fn vayalittu_search(
     reply(search::search(n, ma, mb, a, b, budget, vector, point))
 }
 
-#[unsafe(no_mangle)]
-pub extern "C" fn vayalittu_table(
+pub fn vayalittu_table(
     n: usize,
     ma: usize,
     mb: usize,
@@ -76,8 +76,7 @@ pub extern "C" fn vayalittu_table(
     copied(search::table_after(n, ma, mb, a, b, budget, cells))
 }
 
-#[unsafe(no_mangle)]
-pub extern "C" fn vayalittu_respond(line: &[u8], out: &mut [u8]) -> usize
+pub fn vayalittu_respond(line: &[u8], out: &mut [u8]) -> usize
     ensures value { result ≡ respond_end line.now out.old 0 }
     ensures out_after { out.new ≡ respond_run line.now out.old 0 }
 {
