@@ -1,13 +1,13 @@
 -- The paper's section "Checked by hand", the cases marked P, as one list with the expected answers.
 --
---     Problem         as every call takes it
---     Case            a problem with a vector for the checker, or with a budget for the search
---     Answers         what `judge` answers, and what the lent run then holds; or what `search` answers, and what its two lent runs
---                     then hold
+--     Problem          as every call takes it
+--     Case             a problem with a vector for the checker, or with a budget for the search
+--     Answers          what `judge` answers, and what the lent run then holds; or what `search` answers, and what its two lent runs
+--                      then hold
 --     answer_to        that of a case, by the definitions of the contracts; the lent runs hold 7s before
---     cases           the paper's cases, in its order; case 5 also with A and B exchanged, case 7 with its four vectors, case 8 with
---                     the budgets 3, 4 and 5, case 9 with the budgets 1 and 2
---     expected        what the paper says of them
+--     cases            the paper's cases, in its order; case 5 also with A and B exchanged, case 7 with its four vectors, case 8 with
+--                      the budgets 3, 4 and 5, case 9 with the budgets 1 and 2
+--     expected         what the paper says of them
 --
 -- The variables x, y, z are places 0, 1, 2. That answer_to gives what is expected: proofs/ByHand.antt.
 use Rattle.std.specs.Prelude.{List, [], ◌∷◌, ℕ, ◌+◌, ℤ, pos, negsuc}

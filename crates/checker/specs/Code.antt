@@ -1,12 +1,12 @@
 -- What the private functions ask for and compute.
 --
---     numbers, weights     a column of a side; the numerators from a place on
---     Weighted, Summable   a number and its weight, or a column and its weights, small enough to be multiplied and summed
---     Weighable            the rows and the vector of a problem, in their ranges
+--     numbers, weights       a column of a side; the numerators from a place on
+--     Weighted, Summable     a number and its weight, or a column and its weights, small enough to be multiplied and summed
+--     Weighable              the rows and the vector of a problem, in their ranges
 --     shared_sum, local_sum  A's column sum at a shared, and at an A-local variable, else 0
---     fact_of, Small        the fact that a run, a constant and a modulus make; every number of a fact is at most C
---     short_form            the normal form with fewer cases, as the code computes it (short_same of proofs/Laws/Short.antt)
---     changed, Allowed     a number after a change, and when the change is allowed
+--     fact_of, Small         the fact that a run, a constant and a modulus make; every number of a fact is at most C
+--     short_form             the normal form with fewer cases, as the code computes it (short_same of proofs/Laws/Short.antt)
+--     changed, Allowed       a number after a change, and when the change is allowed
 use Rattle.std.specs.Prelude.{List, Bool, true, false, cond, ℕ, ◌+◌, ◌*◌, ◌<◌, ◌≤◌, eqb, ℤ, pos, nat_abs, neg_ℤ}
 use Rattle.std.specs.Int.Signed.{quot_z}
 use Rattle.integers.specs.Range.{is_zero, is_negative}

@@ -2,9 +2,9 @@
 --
 --     Fact              n coefficients, a constant and a modulus
 --     Holds n f X       coefficients·X ≡ constant (mod modulus), an equality if the modulus is 0
---     modulus_of         M, "the positive gcd of S at all A-local variables and of p × l at A's congruences (0 if all are 0, or
+--     modulus_of        M, "the positive gcd of S at all A-local variables and of p × l at A's congruences (0 if all are 0, or
 --                       there are none)"; at an equation p × l is 0, and changes no gcd
---     raw_fact           "The fact is: sum of S·x over shared variables ≡ K (mod M), an equality if M = 0", where S and K are
+--     raw_fact          "The fact is: sum of S·x over shared variables ≡ K (mod M), an equality if M = 0", where S and K are
 --                       column_sum and constant_sum over A's rows only
 use Rattle.std.specs.Prelude.{Bool, cond, ℕ, ℤ, pos, ◌*ℤ◌}
 use Rattle.integers.specs.Divisibility.{Congruent}

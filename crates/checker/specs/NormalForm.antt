@@ -3,8 +3,8 @@
 --
 --     true_fact, false_fact    "TRUE is all zeros; FALSE is all zeros with constant 1; both have modulus 0."
 --     divided, first_nonzero, residue     "divide all by g", the first nonzero coefficient, a residue in 0..modulus − 1
---     normal_form n f         the normal form of a fact over n variables
---     interpolant_of          that of the raw fact of a vector
+--     normal_form n f          the normal form of a fact over n variables
+--     interpolant_of           that of the raw fact of a vector
 use Rattle.std.specs.Prelude.{Bool, true, false, cond, ℕ, zero, suc, eqb, ℤ, pos, nat_abs, neg_ℤ, ◌+ℤ◌}
 use Rattle.std.specs.Int.Signed.{quot_z, rem_z}
 use Rattle.integers.specs.Range.{is_zero, is_negative}

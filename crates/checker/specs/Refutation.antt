@@ -1,6 +1,6 @@
 -- "A refutation".
 --
---     column_sum R p j      the sum of p × c in column j           constant_sum R p    the sum of p × d
+--     column_sum R p j     the sum of p × c in column j           constant_sum R p    the sum of p × d
 --     Refutes n R q p      "q divides every column sum of p × c over all rows, q divides p × l for each congruence, and q does
 --                          not divide the sum of p × d"; for an equation, l = 0, the second part says that q divides 0
 --     Vector, Numerators   "A vector is a denominator q (1..1,000,000) and m numerators p, .. each in −1,000,000..1,000,000."

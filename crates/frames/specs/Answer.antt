@@ -2,7 +2,7 @@
 --
 --     refutation_frame, point_frame, unfinished_frame, interpolant_frame, refusal_frame    frames 02, 03, 04, 05, 06
 --     problem_answer    the answer to a problem: what the search replies, and with a refutation what the checker makes of it; vector,
---                      point and coeffs are the runs that are lent to them, before the call
+--                       point and coeffs are the runs that are lent to them, before the call
 --     answer_of l       the answer to a line: "Per line it writes 02 and then 05, or one of 03, 04, 06"
 --     problem_lines     the answer to a line that is a problem, with runs of `zeros` lent
 --     answer_max        the length of the longest answer

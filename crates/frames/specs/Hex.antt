@@ -6,9 +6,9 @@
 --     value_at l i k     the number that the k characters from place i on stand for, the first the highest
 --     number_at l i      the signed number of 4 bytes from place i on
 --     char_of d          the digit of a value below 16
---     hex k v           the lowest k digits of v, the highest first; all of v where v < 16 ^ k
+--     hex k v            the lowest k digits of v, the highest first; all of v where v < 16 ^ k
 --     signed_hex k x     the lowest k digits of a signed number's two's complement
---     hexes k run       those of each number of a run, one after the other
+--     hexes k run        those of each number of a run, one after the other
 use Rattle.std.specs.Prelude.{Bool, true, false, cond, List, [], ◌∷◌, ◌++◌, ℕ, zero, suc, ◌+◌, ◌*◌, ◌-◌, ◌/◌, ◌%◌, ltb, get_or, ℤ}
 use Rattle.std.specs.Int.{w32, w64}
 use Rattle.std.proofs.Common.{to_z, of_z}

@@ -2,12 +2,12 @@
 -- characters, so that n stands at place 2, mA at 4, mB at 6, the budget at 8, and the rows from 16 on.
 --
 --     is_frame l        not refused with 9: "an empty line, an odd digit count, another character, fewer than 8 bytes, first byte not
---                      01, or more than 1,360 digits"
+--                       01, or more than 1,360 digits"
 --     is_problem l      not refused with 1: the counts are right, and the length agrees with them
 --     line_refusal l    9, 1, or 0 if the line is a problem; 3 is left to the search
 --     n_of, ma_of, mb_of, budget_of     the fields of a frame           side_long    the numbers of a side
 --     are_digits, numbers_at     all characters are digits; some numbers from a place on
---     side_a, side_b     the numbers of the two sides
+--     side_a, side_b    the numbers of the two sides
 --     problem_frame     the frame of a problem, without line end; that it is read back as that problem: proofs/Theorems/Problem.antt
 use Rattle.std.specs.Prelude.{List, ◌++◌, Bool, ◌&&◌, ℕ, ◌+◌, ◌*◌, ◌%◌, eqb, leb, length, get_or, ℤ}
 use Rattle.integers.specs.Below.{all_below}

@@ -1,7 +1,7 @@
 -- "The smallest number from 2 up that does not divide" s.
 --
---     LeastNonDivisor s q      q is that number; for s = 0, which every number divides, there is none
---     non_divisor s             that number by trial; 2 for s = 0
+--     LeastNonDivisor s q        q is that number; for s = 0, which every number divides, there is none
+--     non_divisor s              that number by trial; 2 for s = 0
 --     non_divisor_from k q s     the first of q, .., q + k - 1 that does not divide s, and q + k if each does
 --
 -- That non_divisor s is the LeastNonDivisor of an s that is not 0, and the only one: proofs/Laws/NonDivisor.antt.

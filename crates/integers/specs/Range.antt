@@ -2,10 +2,10 @@
 --
 --     is_zero z         whether z is 0
 --     is_negative z     whether z is below 0
---     within B z       whether z lies in -B..B
---     Positive z       z is above 0: z is `by` + 1
+--     within B z        whether z lies in -B..B
+--     Positive z        z is above 0: z is `by` + 1
 --
--- The magnitude |z| is `nat_abs z` of `lib.IntN`, a natural number.
+-- The magnitude |z| is `nat_abs z` of std, a natural number.
 use Rattle.std.specs.Prelude.{◌≡◌, Bool, ℕ, suc, eqb, leb, ℤ, pos, nat_abs}
 use Rattle.std.specs.Int.Signed.{lt_z}
 

@@ -2,31 +2,31 @@
 --
 -- What is meant
 --     lines_from p s     the lines of an unfinished line p and the bytes s after it: "A last line without its line end counts if it
---                       has any character", and "Empty input" has none
---     answers lines     their answers, one after the other
+--                        has any character", and "Empty input" has none
+--     answers lines      their answers, one after the other
 --
 -- A machine that takes byte by byte and keeps no more than `cap` of an unfinished line
---     cap               one more than the longest line that is answered by what it says
---     push p b          an unfinished line and one more byte: past the cap nothing is kept
+--     cap                one more than the longest line that is answered by what it says
+--     push p b           an unfinished line and one more byte: past the cap nothing is kept
 --     out_of p s         what is answered on the way through the bytes s, after an unfinished line p
 --     rest_of p s        the unfinished line that they leave
 --     last_of p          what the end of the input answers
 --
 -- One call of `feed`
 --     end_from s i       the place of the next line end from place i on, or the length of s if there is none
---     part s i j        the bytes from place i up to place j
+--     part s i j         the bytes from place i up to place j
 --     kept_run, kept_held the carry, and how much of it is in use, with more bytes of an unfinished line, up to its cap
 --     answered_run       the carry after a line is answered, when none of it is in use
 --     is_carry           whether a carry is `cap` long, and no more of it in use      has_line    and any of a line is in it
 --     bytes_from, is_whole, line_from     the bytes that a call takes, whether they end a line, and that line
---     fits              whether the call does anything: the carry is `cap` long and no more of it is in use, the place is in the
---                       chunk, and there is room for the longest answer
+--     fits               whether the call does anything: the carry is `cap` long and no more of it is in use, the place is in the
+--                        chunk, and there is room for the longest answer
 --     fed_progress       what it answers        fed_carry, fed_out    what it leaves: nothing is changed if it does not fit; without a
---                                              line end the bytes are kept; a whole line is answered
+--                                               line end the bytes are kept; a whole line is answered
 --
 -- One call of `finish`
 --     finish_end         the place that it answers     finish_run    what it leaves: the answer to the unfinished line, if it has any
---                                                     character
+--                                                      character
 use Rattle.std.specs.Prelude.{Bool, cond, not, ◌&&◌, List, [], ◌∷◌, ◌++◌, ℕ, zero, suc, ◌+◌, ◌-◌, min, eqb, ltb, leb, length, take, drop}
 use Rattle.std.proofs.Math.Seq.{paste}
 use Rattle.frames.specs.Answer.{answer_of, has_room, respond_end, respond_run}

@@ -1,7 +1,7 @@
 -- What the theorems of proofs/Theorems speak of: texts made of lines; and calls of `feed` and `finish`, one after the other, with the
 -- bytes that they write.
 --
---     with_ends lines                     lines, each with its line end
+--     with_ends lines                    lines, each with its line end
 --     Plain lines                        no line has a line end in it
 --     joined chunks                      the bytes of all chunks
 --     Calls chunk at carry held text carry' held'

@@ -1,9 +1,9 @@
 -- Which variables occur where.
 --
---     counts l c          whether coefficient c makes its variable occur in a row with modulus l: whether l does not divide c; in an
---                         equation, l = 0, whether c is not 0; modulo 1 never
---     occurs R j          whether variable j occurs in some row of a side
---     shared in_a in_b j    "It is shared if it occurs in both,
+--     counts l c             whether coefficient c makes its variable occur in a row with modulus l: whether l does not divide c; in an
+--                            equation, l = 0, whether c is not 0; modulo 1 never
+--     occurs R j             whether variable j occurs in some row of a side
+--     shared in_a in_b j     "It is shared if it occurs in both,
 --     local_a in_a in_b j    A-local if only in A."; in_a and in_b say which variables occur in A and in B, as `occurs A` and `occurs B` do
 --
 -- The rule for a row is the article's, section 2, the paragraphs on equations (LDE) and on congruences (LME): "A variable xi is said to

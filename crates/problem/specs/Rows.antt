@@ -1,8 +1,8 @@
 -- Rows.
 --
---     Rows               m rows; row i has the coefficients coef i 0, coef i 1, .., the constant const i and the modulus modulus i
+--     Rows                m rows; row i has the coefficients coef i 0, coef i 1, .., the constant const i and the modulus modulus i
 --     side_of n m run     a lent run read as m rows over n variables
---     both A B           A's rows and then B's
+--     both A B            A's rows and then B's
 --     rows_of             all rows of a problem, from its two lent runs
 --
 -- Rows and variables count from 0. The number n of variables stands outside: a row has coefficients for every j, and only

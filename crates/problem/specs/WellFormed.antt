@@ -5,8 +5,8 @@
 --     Ranges n R            "Coefficients and constants lie in −1,000,000..1,000,000, moduli in 0..1,000,000."
 --     WellFormed            both, of a whole problem
 --     million, RowInRange   the ranges' end; what Ranges says of one row
---     shape, in_ranges       the same as tests
---     well_formed            the tests of a whole problem, the shape first
+--     shape, in_ranges      the same as tests
+--     well_formed           the tests of a whole problem, the shape first
 use Rattle.std.specs.Prelude.{◌≡◌, List, Bool, not, ◌&&◌, ℕ, ◌+◌, ◌*◌, ◌<◌, ◌≤◌, leb, eqb, length, ℤ, pos, nat_abs, ◌≤ℤ◌}
 use Rattle.integers.specs.Range.{is_negative, within}
 use Rattle.integers.specs.Below.{all_below}

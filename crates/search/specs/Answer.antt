@@ -1,15 +1,15 @@
 -- What `search` and `table_after` answer, and what the runs that are lent to them then hold.
 --
---     refusal_of            the first refusal before any step, 0 if there is none; `fit` says that the lent runs have their lengths
---     searched             the state after as many steps as the budget allows, or as there are
+--     refusal_of             the first refusal before any step, 0 if there is none; `fit` says that the lent runs have their lengths
+--     searched               the state after as many steps as the budget allows, or as there are
 --     reply_of, copy_of      the answers for each refusal, and for none
 --     is_refuted, is_solved  tests of an outcome        written_by, written_if    a run that is written, or left as it was
 --     search_refusal, table_refusal     the refusals of the two calls before any step
---     search_reply          what `search` answers
---     search_vector         what its vector run then holds: the vector if the problem is refuted, else what it held
---     search_point          what its point run then holds: the point if the problem is solved, else what it held
+--     search_reply           what `search` answers
+--     search_vector          what its vector run then holds: the vector if the problem is refuted, else what it held
+--     search_point           what its point run then holds: the point if the problem is solved, else what it held
 --     table_reply, table_run the same of `table_after`: the cells, unless it is refused
---     number_of             the paper's number of an answer, 0 if it is no refusal; "too large" is 8       table_number    of `table_after`
+--     number_of              the paper's number of an answer, 0 if it is no refusal; "too large" is 8       table_number    of `table_after`
 use Rattle.std.specs.Prelude.{List, Bool, true, false, cond, ◌&&◌, ℕ, zero, suc, ◌+◌, eqb, length, ℤ}
 use Rattle.integers.specs.Run.{at, tabulate}
 use Rattle.problem.specs.Rows.{rows_of}

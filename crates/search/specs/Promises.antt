@@ -2,15 +2,15 @@
 --
 --     SearchSays Fit k      the case of the number k of an answer of `search`, 8 included
 --     Outnumber s budget    the steps from s outnumber the budget: after no number of steps within it the search is finished
---     says_unfinished        whether an answer of `search` is "unfinished"
+--     says_unfinished       whether an answer of `search` is "unfinished"
 --     Says r o              the answer r of `search` is no refusal, and its outcome is o
 --     Exactly P Q           P holds exactly when Q does
 --     Refuses Fit k         the case of the refusal k before any step, 0 for none; Fit says that the lent runs have their lengths
---     most_steps             8,076
+--     most_steps            8,076
 --     NoPoint, SomePoint    no point meets the rows; some point does
 --     Decided               refuted exactly when no point meets the rows, solved exactly when some point does
---     reduced_cell           what Reduce puts into its second column
---     closed_table, ..       what Close puts: table, entry, residual, z, next state, vector
+--     reduced_cell          what Reduce puts into its second column
+--     closed_table, ..      what Close puts: table, entry, residual, z, next state, vector
 --     Closes, GoesOn        the next step of s is Close; its entry divides the residual
 --     Exceeds s             the next step of s would put a number above its bound; one case for each place
 --     Overflows s budget    so does some step from s within the budget, before which the search is unfinished

@@ -1,6 +1,6 @@
 -- Many steps.
 --
---     after b s      the state after b steps from s, or after the last, if there are fewer
+--     after b s       the state after b steps from s, or after the last, if there are fewer
 --     next_by o s     one step more, if the outcome o is "unfinished"
 --     is_unfinished   whether an outcome is "unfinished"
 use Rattle.std.specs.Prelude.{Bool, true, false, ℕ, zero, suc}

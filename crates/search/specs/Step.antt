@@ -1,15 +1,15 @@
 -- "One step takes the state and hands the next one back". A function `..By` goes by the answer of one test.
 --
---     first_column s      "the nonzero column of smallest magnitude in that row (lowest index on a tie)"; if all of columns r..N are
---                        zero, column r
---     second_column s     "the first other nonzero column"; if there is none, the first column itself
---     quotient           "Divide the second's entry by the first's; the quotient is cut towards zero."
---     reduce_of           Reduce
---     close_of            Close
+--     first_column s       "the nonzero column of smallest magnitude in that row (lowest index on a tie)"; if all of columns r..N are
+--                          zero, column r
+--     second_column s      "the first other nonzero column"; if there is none, the first column itself
+--     quotient             "Divide the second's entry by the first's; the quotient is cut towards zero."
+--     reduce_of            Reduce
+--     close_of             Close
 --     close_table, residual_of    the table of a closed row, and its residual      passed, placed    the state after it, without and with a pivot
 --     place_of, point_of   a place of the point, and the point                 closed    with the last row closed, it is solved
---     step_of             "Reduce, if at least two of columns r..N are nonzero in the current row"; "Close, otherwise"
---     too_large           "That step counts; the table stays as before it."
+--     step_of              "Reduce, if at least two of columns r..N are nonzero in the current row"; "Close, otherwise"
+--     too_large            "That step counts; the table stays as before it."
 --
 -- r - 1 pivots stand in columns 0, .., count - 1, so that column r is column `count` here, also if it is not in use: its entry is
 -- then 0, as in a row without pivot. 0 divides only 0, so that "a pivot that divides the residual" and "no pivot and residual 0"

@@ -1,8 +1,8 @@
 -- The table: "36 rows and 24 columns: 864 cells", row by row in one run. Rows and columns count from 0.
 --
---     bound               2^28, the largest magnitude of a cell, of a z and of a place of the point
---     cell t i j          the cell in row i and column j
---     Bounded run         every number of a run is at most the bound in magnitude
+--     bound                2^28, the largest magnitude of a cell, of a z and of a place of the point
+--     cell t i j           the cell in row i and column j
+--     Bounded run          every number of a run is at most the bound in magnitude
 --     subtract_column      "Subtract quotient × first column from the second, through the whole table."
 --     subtraction_fits     whether no cell that it puts is too large
 --     swap_columns, negate_column     "swap it with column r and negate it .., both through the whole table"

@@ -1,6 +1,6 @@
 -- "The vector, when row i refutes".
 --
---     Vector               numerators, denominator q, and whether all of them are still in range
+--     Vector                numerators, denominator q, and whether all of them are still in range
 --     unit_vector i e       "numerator 1 at row i; q is its pivot, or 1 if it has none" (e = 0)
 --     column_sum m t p k    s, "the sum of numerator × entry so far in that column"
 --     back_one              what is done at one earlier pivot column; back_from    "For earlier pivot columns from last to first"

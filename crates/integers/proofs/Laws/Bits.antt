@@ -1,11 +1,11 @@
 -- From stored bits to numbers and back. A signed local holds its bits, a natural: the number is `to_z w64 bits`, and z is
--- stored as `of_z w64 z`. So a need of a function on i64 speaks of `stored z`, that is `to_z w64 (of_z w64 z)`, which is z
--- only by a proof that z fits. Two ways to answer a need in one line:
+-- stored as `of_z w64 z`. So a goal of a function on i64 speaks of `stored z`, that is `to_z w64 (of_z w64 z)`, which is z
+-- only by a proof that z fits. Two ways to answer a goal in one line:
 --
 --     simp (to_z-of_z, FITS ..) FACT       replaces each stored z by z; FITS has one `SFits w64 z` for each z that is stored
---     fits_both OP FIT FIT RESULT        the need of x OP y itself;   stored_both   its value, in `returns`
+--     fits_both OP FIT FIT RESULT          the goal of x OP y itself;   stored_both   its value, in `returns`
 --
--- Where an `SFits w64 z` comes from: a parameter x has `c.fits.x`, a call's result `record { sfits = c.f.ok }`, an element
+-- Where an `SFits w64 z` comes from: a parameter x has `c.ranges.x`, a call's result `record { sfits = c.f.type_inv }`, an element
 -- that was read `record { sfits = c.v.given }`, and any number below 2^63 in magnitude `fits`.
 --
 --     Fits          fits               |z| < 2^63: z fits

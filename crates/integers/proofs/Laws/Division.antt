@@ -1,21 +1,21 @@
--- Division cut towards zero, `quot_z a b`, and its remainder, `rem_z a b` (`lib.Signed`): what `/` and `%` compute on an i64.
+-- Division cut towards zero, `quot_z a b`, and its remainder, `rem_z a b` (of std): what `/` and `%` compute on an i64.
 --
 --     Magnitudes    nat_abs_quot    |a / b| = |a| / |b|
 --                   nat_abs_rem     |a % b| = |a| % |b|
---     Law           quot-rem       a = (a / b) b + a % b
---                   rem_is         a - (a / b) b = a % b
---     Bounds        quot_le        |a / b| ≤ |a|
---                   rem_le         |a % b| ≤ |a|
---                   rem_lt         b ≠ 0: |a % b| < |b|
---                   rem_halves     b ≠ 0 and |b| ≤ |a|: 2 |a % b| < |a|
---                   quot_halves    b ≠ 0 and |b| ≤ |a|: 2 |a - (a / b) b| < |a|
---     Sign          rem_nonneg     0 ≤ a: 0 ≤ a % b
---                   rem_nonpos     a ≤ 0: a % b ≤ 0
---     Exact         quot-mul       b ≠ 0: (k b) / b = k
---                   rem-mul        (k b) % b = 0
---     Zero          quot-zero      0 / b = 0      rem-zero    0 % b = 0
+--     Law           quot-rem        a = (a / b) b + a % b
+--                   rem_is          a - (a / b) b = a % b
+--     Bounds        quot_le         |a / b| ≤ |a|
+--                   rem_le          |a % b| ≤ |a|
+--                   rem_lt          b ≠ 0: |a % b| < |b|
+--                   rem_halves      b ≠ 0 and |b| ≤ |a|: 2 |a % b| < |a|
+--                   quot_halves     b ≠ 0 and |b| ≤ |a|: 2 |a - (a / b) b| < |a|
+--     Sign          rem_nonneg      0 ≤ a: 0 ≤ a % b
+--                   rem_nonpos      a ≤ 0: a % b ≤ 0
+--     Exact         quot-mul        b ≠ 0: (k b) / b = k
+--                   rem-mul         (k b) % b = 0
+--     Zero          quot-zero       0 / b = 0      rem-zero    0 % b = 0
 --
--- In `lib.Signed` a / 0 is 0 and a % 0 is a; code never divides by 0. Assumes nothing.
+-- In std a / 0 is 0 and a % 0 is a; code never divides by 0. Assumes nothing.
 use mathlib.Core.Path.{◌≡◌, refl, sym, ◌∙◌, ap, subst}
 use mathlib.Core.List.{[], ◌∷◌}
 use Prim.Native.Nat.{ℕ, suc, ◌+◌, ◌*◌, ◌/◌, ◌%◌, ◌<◌, ◌≤◌}

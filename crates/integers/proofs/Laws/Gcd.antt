@@ -4,15 +4,15 @@
 --                     gcd_ℕ_step       b ≠ 0: gcd_ℕ a b = gcd_ℕ b (a % b)
 --                     gcd_ℕ_unique     a natural that divides both and that every common divisor divides is gcd_ℕ a b
 --                     gcd_ℕ_le         a ≤ C and b ≤ C: gcd_ℕ a b ≤ C
---     Two integers    gcd_left        gcd_ℤ a b ∣ a          gcd_right    gcd_ℤ a b ∣ b
---                     gcd_greatest    d ∣ a and d ∣ b: d ∣ gcd_ℤ a b
---                     gcd_bezout      gcd_ℤ a b = u a + v b for some u, v
---                     gcd_abs         only magnitudes count
+--     Two integers    gcd_left         gcd_ℤ a b ∣ a          gcd_right    gcd_ℤ a b ∣ b
+--                     gcd_greatest     d ∣ a and d ∣ b: d ∣ gcd_ℤ a b
+--                     gcd_bezout       gcd_ℤ a b = u a + v b for some u, v
+--                     gcd_abs          only magnitudes count
 --     Many            gcd_from g k f, the gcd of g and of f 0, .., f (k - 1)
 --                     gcd_from_none    gcd_from g 0 f = g
 --                     gcd_from_more    gcd_from g (k + 1) f, at the code's k + 1
 --                     gcd_from_turn    the same for a natural that holds the gcd so far, as a loop has it
---                     gcd_from_start   it divides g          gcd_from_each   it divides each f i
+--                     gcd_from_start   it divides g           gcd_from_each   it divides each f i
 --                     gcd_from_greatest    what divides g and each f i divides it
 --                     gcd_from_bezout  it is u g + w 0 × f 0 + .. + w (k - 1) × f (k - 1) for some u, w
 --                     gcd_from_natural     it is a natural if g is

@@ -1,17 +1,17 @@
--- Magnitudes. |z| is `nat_abs z` (`lib.IntN`), a natural number, which `omega` reads: keep every bound in this form.
+-- Magnitudes. |z| is `nat_abs z` (std), a natural number, which `omega` reads: keep every bound in this form.
 --
 --     Operations    nat_abs_neg     |-a| = |a|
 --                   nat_abs_mul     |a b| = |a| |b|
 --                   nat_abs_add     |a + b| ≤ |a| + |b|
 --                   nat_abs_sub     |a - b| ≤ |a| + |b|
---                   signed_abs     |a| is a times a sign: |a| = s a
---     Bounds        add_bound      |a| ≤ A and |b| ≤ B: |a + b| ≤ A + B
---                   sub_bound      likewise |a - b| ≤ A + B
---                   mul_bound      likewise |a b| ≤ A B
+--                   signed_abs      |a| is a times a sign: |a| = s a
+--     Bounds        add_bound       |a| ≤ A and |b| ≤ B: |a + b| ≤ A + B
+--                   sub_bound       likewise |a - b| ≤ A + B
+--                   mul_bound       likewise |a b| ≤ A B
 --     Zero          nat_abs_zero    |z| = 0: z = 0
 --                   nat_abs_pos     z ≠ 0: 0 < |z|
---     Cancelling    nonzero_mul    g ≠ 0 and g x = 0: x = 0
---                   mul_cancel     g ≠ 0 and g x = g y: x = y
+--     Cancelling    nonzero_mul     g ≠ 0 and g x = 0: x = 0
+--                   mul_cancel      g ≠ 0 and g x = g y: x = y
 --
 -- An equation between integers becomes one of naturals by `ap nat_abs e`. Assumes nothing.
 use mathlib.Core.Path.{◌≡◌, refl, sym, ◌∙◌, ap, subst}

@@ -17,7 +17,7 @@
 --                    nonneg_is      0 ≤ z: z = |z|
 --     Above 0        positive_is  positive_lt  positive_ne  positive_mul  positive_of     of `Positive`
 --
--- In `lib.Signed` ≤ℤ and <ℤ bind tighter than +ℤ: write (x +ℤ y) ≤ℤ z. Assumes nothing.
+-- In std ≤ℤ and <ℤ bind tighter than +ℤ: write (x +ℤ y) ≤ℤ z. Assumes nothing.
 use mathlib.Core.Path.{◌≡◌, refl, sym, ◌∙◌, ap, ap₂}
 use mathlib.Core.Bool.{Bool, true, false, cond, true≢false, false≢true}
 use mathlib.Core.List.{[], ◌∷◌}

@@ -1,5 +1,5 @@
--- ℤ is a commutative ring. Together with `lib.IntN`, which has +ℤ_assoc, +ℤ_comm, +ℤ_idl, +ℤ_idr, +ℤ_invl, +ℤ_invr,
--- *ℤ_comm, zero-*ℤ, *ℤ-zero, negℤ-+ℤ and negℤ-negℤ:
+-- ℤ is a commutative ring. Together with std, which has +ℤ_assoc, +ℤ_comm, +ℤ_idl, +ℤ_idr, +ℤ_invl, +ℤ_invr,
+-- *ℤ_comm, zero-*ℤ, *ℤ-zero, neg_ℤ-+ℤ and neg_ℤ-neg_ℤ:
 --
 --     Sums          +ℤ_left_comm    a + (b + c) = b + (a + c)
 --                   sub_self        a - a = 0

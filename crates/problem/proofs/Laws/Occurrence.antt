@@ -3,7 +3,7 @@
 --     by_counts          true exactly where the modulus does not divide the coefficient
 --     counts_equation    in an equation: where the coefficient is not 0
 --     counts_unit        modulo 1: nowhere
---     Absent in_r R       what a test of occurrence has to say: where variable j does not occur, each row's modulus divides its coefficient
+--     Absent in_r R      what a test of occurrence has to say: where variable j does not occur, each row's modulus divides its coefficient
 --     absent             `occurs R` does; the checker's theorems use nothing else of it
 --
 -- Assumes nothing.

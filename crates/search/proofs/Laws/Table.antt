@@ -3,11 +3,11 @@
 --
 --     Rows        each_row_none  each_row_more     at 0 rows and at the code's k + 1
 --                 Local               a change of one row that keeps the length and the cells of the other rows
---                 each_row-length      the length stays
---                 each_row_later       rows not reached stay               each_row_done    rows passed stay as their turn left them
---                 each_row-cell        a cell after all turns, by what the turn of its row makes of that row
---                 each_row_bounded     cells of rows not reached are bounded
---                 each_row_keeps       bounded again, if each turn keeps that
+--                 each_row-length     the length stays
+--                 each_row_later      rows not reached stay               each_row_done    rows passed stay as their turn left them
+--                 each_row-cell       a cell after all turns, by what the turn of its row makes of that row
+--                 each_row_bounded    cells of rows not reached are bounded
+--                 each_row_keeps      bounded again, if each turn keeps that
 --                 bounded_set         bounded again with one cell written
 --     Subtract    subtract_local  subtract_length
 --                 subtract_cell       of the second column                subtract_other    other columns stay
@@ -15,7 +15,7 @@
 --     Swap        swap_local  swap_length
 --                 swap_first  swap_second     of the two columns          swap_other        other columns stay
 --                 swap_bounded        bounded again
---     Negate      negate_local  negate_length
+--     Negate      negate_local   negate_length
 --                 negate_cell         of the column                       negate_other      other columns stay
 --                 negate_bounded      bounded again
 --
