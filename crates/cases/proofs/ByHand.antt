@@ -1,6 +1,6 @@
 -- The paper's cases that are marked P: the definitions of the contracts give what the paper says of each, by computation.
 -- Assumes nothing.
-use mathlib.Core.Path.{◌≡◌, refl}
+use Rattle.std.proofs.Common.{◌≡◌, refl}
 use Rattle.integers.specs.Gcd.{euclid, gcd_ℕ, gcd_ℤ, gcd_from}
 use Rattle.integers.specs.NonDivisor.{non_divisor_from, non_divisor}
 use Rattle.integers.specs.Sum.{sum}

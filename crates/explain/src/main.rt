@@ -6,10 +6,14 @@
 //
 // Each function takes any characters. The bounds that some require of counts and places hold for counts of any byte, below 256, and
 // only keep sums from overflow; that a count is 1 to 12 is tested where a frame is read.
-ghost use Rattle.std.specs.Prelude.{◌*◌, ◌≤◌, ◌<◌, length};
-ghost use Rattle.io.specs.Counts.{IsPrefixLen};
+#![tactic(auto)]
 
-use libc::{STDIN_FILENO, STDOUT_FILENO};
+ghost use Rattle.std.specs.Prelude.{◌*◌, ◌≤◌, ◌<◌, length};
+ghost use Rattle.std.specs.Counts.{IsPrefixLen};
+
+use std::io;
+use std::io::{ErrorKind, Read, Write};
+use std::process::ExitCode;
 
 // ---- Characters
 
@@ -41,9 +45,8 @@ fn put_comma(index: usize, out: &mut [u8], at: usize) -> usize {
 }
 
 fn put_decimal(number: u64, out: &mut [u8], at: usize) -> usize {
-    let mut text = [0u8; 20];
-    let k = io::decimal(number, &mut text);
-    put_text(&text[..k], out, at)
+    let mut text = itoa::Buffer::new();
+    put_text(text.format(number).as_bytes(), out, at)
 }
 
 // ---- Hexadecimal, read in place; where a line has no character, 0 is read
@@ -552,91 +555,99 @@ fn feed(chunk: &[u8], from: usize, line: &mut [u8], held: usize, out: &mut [u8])
     }
 }
 
-// Writes what stands in the buffer, and answers whether that went well.
-fn flush(out: &[u8], made: usize) -> bool {
+// Writes what stands in the buffer.
+fn flush(output: &mut impl Write, out: &[u8], made: usize) -> io::Result<()> {
     let n = within(made, out);
-    io::write_all(STDOUT_FILENO, &out[..n])
+    output.write_all(&out[..n])
 }
 
-// What is left after a chunk, or after a read.
+// What is left after a chunk, or after a read. A read or a write that failed is an error beside it.
 #[derive(Drop)]
 enum Next {
     // The lines that have ended are explained, and this many characters of an unfinished one are kept.
     Held(usize),
     // The input has ended, with this many characters of an unfinished line.
     Ended(usize),
-    // A read or a write failed.
-    Failed,
 }
 
 // Explains all of a chunk, and writes each buffer that this fills.
-fn pump(chunk: &[u8], line: &mut [u8], held: usize, out: &mut [u8]) -> Next {
+fn pump(
+    output: &mut impl Write,
+    chunk: &[u8],
+    line: &mut [u8],
+    held: usize,
+    out: &mut [u8],
+) -> io::Result<Next> {
     let mut at: usize = 0;
     let mut h = held;
     while at < chunk.len() {
         let p = feed(chunk, at, line, h, out);
-        if !flush(out, p.made) {
-            return Next::Failed;
-        }
+        flush(output, out, p.made)?;
         at = p.used;
         h = p.held;
     }
-    Next::Held(h)
+    Ok(Next::Held(h))
 }
 
-// Reads once, and explains what came.
-fn turn(chunk: &mut [u8], line: &mut [u8], held: usize, out: &mut [u8]) -> Next {
-    let got = libc::read(STDIN_FILENO, chunk);
-    if got == 0 {
-        return Next::Ended(held);
+// Reads once, and explains what came. A read that a signal interrupts is tried again.
+fn turn(
+    input: &mut impl Read,
+    output: &mut impl Write,
+    chunk: &mut [u8],
+    line: &mut [u8],
+    held: usize,
+    out: &mut [u8],
+) -> io::Result<Next> {
+    match input.read(chunk) {
+        Ok(0) => Ok(Next::Ended(held)),
+        Ok(n) => pump(output, &chunk[..n], line, held, out),
+        Err(error) if error.kind() == ErrorKind::Interrupted => Ok(Next::Held(held)),
+        Err(error) => Err(error),
     }
-    if got < 0 {
-        if os::errno() == libc::EINTR {
-            return Next::Held(held);
-        }
-        return Next::Failed;
-    }
-    let n = io::count(got, chunk);
-    pump(&chunk[..n], line, held, out)
-}
-
-// Says on standard error why a call failed. (A program has no exit status of its own.)
-fn report() {
-    os::fail(b"explain");
 }
 
 // Explains a last line that has no line end.
-fn close(line: &[u8], held: usize, out: &mut [u8]) {
+fn close(output: &mut impl Write, line: &[u8], held: usize, out: &mut [u8]) -> io::Result<()> {
     if held == 0 {
-        return;
+        return Ok(());
     }
     let end = explain(line, held, out, 0);
-    if !flush(out, end) {
-        report();
-    }
+    flush(output, out, end)
 }
 
-// A proved loop has to end, and nothing says that the input does: the turns are counted down from a number that no run uses up.
-fn main() {
-    let mut chunk = io::large_buffer();
-    let mut out = io::large_buffer();
+// Explains each line of the input. A proved loop has to end, and nothing says that the input does: the turns are counted down from a
+// number that no run uses up.
+fn explain_all(input: &mut impl Read, output: &mut impl Write) -> io::Result<()> {
+    let mut chunk = [0u8; 65536];
+    let mut out = [0u8; 65536];
     let mut line = [0u8; 1361];
     let mut held = 0;
     let mut turns = u64::MAX;
     while turns > 0 {
         turns -= 1;
-        match turn(&mut chunk, &mut line, held, &mut out) {
+        match turn(input, output, &mut chunk, &mut line, held, &mut out)? {
             Next::Held(h) => {
                 held = h;
             }
             Next::Ended(h) => {
-                close(&line, h, &mut out);
-                return;
+                return close(output, &line, h, &mut out);
             }
-            Next::Failed => {
-                report();
-                return;
-            }
+        }
+    }
+    Ok(())
+}
+
+// Says on standard error why a read or a write failed.
+fn report(errors: &impl Eprint, error: io::Error) {
+    let _ = errors.eprintln(format_args!("explain: {error}"));
+}
+
+fn main(rt: HostRuntime) -> ExitCode {
+    match explain_all(&mut rt.stdin(), &mut rt.stdout()) {
+        Ok(()) => ExitCode::SUCCESS,
+        Err(error) => {
+            report(&rt, error);
+            ExitCode::FAILURE
         }
     }
 }

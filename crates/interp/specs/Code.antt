@@ -7,9 +7,7 @@ use Rattle.std.specs.Prelude.{◌≡◌, List, ℕ, ◌+◌, ◌≤◌, length}
 use Rattle.frames.specs.Answer.{answer_max}
 use Rattle.lines.specs.Lines.{cap}
 use Rattle.interp.specs.declared.Next.{Next}
-use Rattle.interp.specs.declared.Next.TheVariants.{Held, Ended, Failed}
-use Rattle.interp.specs.declared.Place.{Place}
-use Rattle.interp.specs.declared.Place.TheVariants.{At, Failed as Unwritten}
+use Rattle.interp.specs.declared.Next.TheVariants.{Held, Ended}
 
 pub record Ready (carry : List ℕ) (held : ℕ) (out : List ℕ) : Type 0 where
   pub long : length carry ≡ cap
@@ -19,8 +17,6 @@ pub record Ready (carry : List ℕ) (held : ℕ) (out : List ℕ) : Type 0 where
 abbrev pub Small : Next → Type 0
 Small (Held kept) = kept ≤ cap
 Small Ended = Unit {0}
-Small Failed = Unit {0}
 
-abbrev pub Roomy : Place → ℕ → Type 0
-Roomy (At place) long = place + answer_max ≤ long
-Roomy Unwritten long = Unit {0}
+abbrev pub Roomy : ℕ → ℕ → Type 0
+Roomy place long = place + answer_max ≤ long
