@@ -256,6 +256,7 @@ fn refusal(line: &[u8]) -> u8
 }
 
 // Whether a line is a frame 01 of any counts; what is not is refused with 9.
+#[tactic(auto, unfolding(crate::specs::Problem::is_frame))]
 fn is_frame(line: &[u8]) -> bool
     ensures { result ≡ is_frame line.now }
 {
@@ -331,6 +332,7 @@ fn both(first: bool, second: bool) -> bool
 }
 
 // Whether a character is one of 0 to 9 or a to f.
+#[tactic(auto, unfolding(crate::specs::Hex::is_digit))]
 fn is_digit(c: u8) -> bool
     ensures { result ≡ is_digit c }
 {
