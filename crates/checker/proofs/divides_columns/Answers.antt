@@ -2,7 +2,6 @@ use mathlib.Core.Path.{◌≡◌, sym, ◌∙◌, ap}
 use mathlib.Core.Bool.{Bool, false}
 use Prim.Native.Nat.{ℕ}
 use native.Mathlib.Omega.{arith}
-use borrow.Author.Tests.{not-true, not-false}
 use lib.IntN.{ℤ}
 use Rattle.integers.specs.Divisibility.{divides}
 use Rattle.integers.specs.Below.{all_below}
@@ -35,10 +34,10 @@ loop-j-init c = (omega arith, all_none (test c (stored c.args.q)))
 
 pub returns-then-not-divides : goal.returns-then-not-divides
 returns-then-not-divides c =
-    let e = sym (tested c.before) ∙ not-true c.divides.result c.if-not-divides.true-raw in
+    let e = sym (tested c.before) ∙ c.if-not-divides.true in
     answer c.before.before.before.before.before false (all_stop c.args.n (test c.before.before.before.before.before (stored c.args.q)) c.loop-j.j c.loop-j-test.true e)
 
 pub loop-j-preserved : goal.loop-j-preserved
 loop-j-preserved c =
-    let e = sym (tested c.before) ∙ not-false c.divides.result c.if-not-divides.false-raw in
+    let e = sym (tested c.before) ∙ c.if-not-divides.false in
     (omega arith, all_onward c.args.n (test c.before.before.before.before.before (stored c.args.q)) c.loop-j.j c.loop-j.invariant.1 e)

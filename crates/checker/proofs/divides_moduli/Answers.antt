@@ -2,7 +2,6 @@ use mathlib.Core.Path.{◌≡◌, sym, ◌∙◌, ap}
 use mathlib.Core.Bool.{Bool, false}
 use Prim.Native.Nat.{ℕ, ◌+◌}
 use native.Mathlib.Omega.{arith}
-use borrow.Author.Tests.{not-true, not-false}
 use lib.IntN.{ℤ, ◌*ℤ◌}
 use Rattle.integers.specs.Divisibility.{divides}
 use Rattle.integers.specs.Below.{all_below}
@@ -28,10 +27,10 @@ loop-i-init c = (omega arith, all_none (test c (stored c.args.q)))
 
 pub returns-then-not-divides : goal.returns-then-not-divides
 returns-then-not-divides c =
-    let e = sym (tested c.before) ∙ not-true c.divides.result c.if-not-divides.true-raw in
+    let e = sym (tested c.before) ∙ c.if-not-divides.true in
     answer c.before.before.before.before.before false (all_stop c.args.m (test c.before.before.before.before.before (stored c.args.q)) c.loop-i.i c.loop-i-test.true e)
 
 pub loop-i-preserved : goal.loop-i-preserved
 loop-i-preserved c =
-    let e = sym (tested c.before) ∙ not-false c.divides.result c.if-not-divides.false-raw in
+    let e = sym (tested c.before) ∙ c.if-not-divides.false in
     (omega arith, all_onward c.args.m (test c.before.before.before.before.before (stored c.args.q)) c.loop-i.i c.loop-i.invariant.1 e)

@@ -1,6 +1,5 @@
 use mathlib.Core.Path.{◌≡◌, sym, ◌∙◌, ap}
 use native.Mathlib.Omega.{arith}
-use borrow.Author.Tests.{not-true, not-false}
 use lib.ListN.{length}
 use Rattle.integers.specs.Range.{is_zero, is_negative}
 use Rattle.integers.specs.Run.{at}
@@ -23,11 +22,11 @@ loop-j-init c = (omega arith, first_none (at c.args.coeffs.now))
 pub returns-then-not-is_zero : goal.returns-then-not-is_zero
 returns-then-not-is_zero c =
     let run = c.args.coeffs.now in
-    let e = sym (tested c.before.before) ∙ not-true c.is_zero.result c.if-not-is_zero.true-raw in
+    let e = sym (tested c.before.before) ∙ c.if-not-is_zero.true in
     c.is_negative.ensures ∙ ap is_negative (coef-is c.before.before.before ∙ sym (first_found (length run) (at run) c.loop-j.j c.loop-j.invariant.1 (decides_no (by_zero (at run c.loop-j.j)) e) c.loop-j-test.true))
 
 pub loop-j-preserved : goal.loop-j-preserved
 loop-j-preserved c =
     let run = c.args.coeffs.now in
-    let e = sym (tested c.before) ∙ not-false c.is_zero.result c.if-not-is_zero.false-raw in
+    let e = sym (tested c.before) ∙ c.if-not-is_zero.false in
     (omega arith, first_onward c.loop-j.j (at run) c.loop-j.invariant.1 ((by_zero (at run c.loop-j.j)).yes e))

@@ -1,7 +1,6 @@
 use mathlib.Core.Path.{◌≡◌, sym, ◌∙◌, ap}
 use mathlib.Core.Bool.{Bool, true, false}
 use Prim.Native.Nat.{ℕ}
-use borrow.Author.Tests.{not-true, not-false}
 use lib.ListN.{length}
 use lib.IntN.{ℤ, pos, neg_ℤ}
 use Rattle.integers.specs.Range.{is_negative}
@@ -30,7 +29,7 @@ by_sign s t e = sym (ap (λ (x : Bool). sign_by x (entry s)) e)
 pub returns-then-not-first_is_negative : goal.returns-then-not-first_is_negative
 unfolding sign_by
 returns-then-not-first_is_negative c =
-    let e = by_sign c.before.before false (sym c.first_is_negative.ensures ∙ not-true c.first_is_negative.result c.if-not-first_is_negative.true-raw) in record {
+    let e = by_sign c.before.before false (sym c.first_is_negative.ensures ∙ c.if-not-first_is_negative.true) in record {
       value = ap (λ (k : ℤ). Stated k (pos 0)) (stored_is c.ranges.constant) ∙ ap (answer_of 0) e;
       coeffs_after = run_is c.args.coeffs.now ∙ ap (λ (h : Fact). tabulate (long c.before.before) h.coef) e;
     }
@@ -38,7 +37,7 @@ returns-then-not-first_is_negative c =
 pub returns : goal.returns
 unfolding sign_by
 returns c =
-    let e = by_sign c.before.before.before.before.before.before true (sym c.first_is_negative.ensures ∙ not-false c.first_is_negative.result c.if-not-first_is_negative.false-raw) in record {
+    let e = by_sign c.before.before.before.before.before.before true (sym c.first_is_negative.ensures ∙ c.if-not-first_is_negative.false) in record {
       value = ap (λ (k : ℤ). Stated k (pos 0)) (stored_is (record { sfits = c.changed.type_inv }) ∙ c.changed.ensures ∙ ap neg_ℤ (stored_is c.ranges.constant)) ∙ ap (answer_of 0) e;
       coeffs_after = c.change_all.ensures ∙ ap (λ (h : Fact). tabulate (long c.before.before.before.before.before.before) h.coef) e;
     }

@@ -3,7 +3,6 @@ use mathlib.Core.Bool.{Bool, true, false}
 use mathlib.Core.List.{List}
 use Prim.Native.Nat.{ℕ, ◌<◌, ◌≤◌}
 use native.Mathlib.Omega.{arith}
-use borrow.Author.Tests.{not-true, not-false}
 use lib.ListN.{length}
 use lib.IntN.{ℤ, pos, nat_abs}
 use lib.Signed.{quot_z, ◌≤ℤ◌}
@@ -69,14 +68,14 @@ by_test s t e = sym (ap (λ (b : Bool). short_by b (long s) (divided (factor s) 
 pub returns-then-not-divides : goal.returns-then-not-divides
 unfolding short_by
 returns-then-not-divides c =
-    let e = by_test c.before.before.before.before.before.before false (sym (tested c.before.before.before.before) ∙ not-true c.divides.result c.if-not-divides.true-raw) in
+    let e = by_test c.before.before.before.before.before.before false (sym (tested c.before.before.before.before) ∙ c.if-not-divides.true) in
     record {
       value = ap (answer_of 0) e;
       coeffs_after = c.change_all.ensures ∙ ap (λ (h : Fact). tabulate (long c.before.before.before.before.before.before) h.coef) e;
     }
 
 divides-pass : (c : Else-not-divides) → divides (factor c.before.before.before) c.args.constant ≡ true
-divides-pass c = sym (tested c.before) ∙ not-false c.divides.result c.if-not-divides.false-raw
+divides-pass c = sym (tested c.before) ∙ c.if-not-divides.false
 
 zero_is : (c : After-is_zero) → c.is_zero.result ≡ is_zero (factor c.before.before.before.before)
 zero_is c = c.is_zero.ensures ∙ ap is_zero (factor-is c.before.before.before)

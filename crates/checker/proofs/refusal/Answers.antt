@@ -1,6 +1,5 @@
 use mathlib.Core.Path.{◌≡◌, sym, ◌∙◌, ap}
 use Prim.Native.Nat.{ℕ}
-use borrow.Author.Tests.{not-true, not-false}
 use lib.IntN.{ℤ}
 use Rattle.integers.proofs.Laws.Bits.{stored_is}
 use Rattle.integers.proofs.Laws.Decide.{decides_no}
@@ -20,21 +19,21 @@ answer s h = sym (refusal_is s.args.n s.args.ma s.args.mb s.args.a.now s.args.b.
 
 shape-holds : (c : Else-not-shape) → let s = c.args in Shape s.n s.ma s.mb s.a.now s.b.now
 shape-holds c = let s = c.args in
-    (by_shape s.n s.ma s.mb s.a.now s.b.now).yes (sym c.shape.ensures ∙ not-false c.shape.result c.if-not-shape.false-raw)
+    (by_shape s.n s.ma s.mb s.a.now s.b.now).yes (sym c.shape.ensures ∙ c.if-not-shape.false)
 
 well-formed : (c : Else-not-well_formed) → let s = c.args in WellFormed s.n s.ma s.mb s.a.now s.b.now
 well-formed c = let s = c.args in
-    (by_well_formed s.n s.ma s.mb s.a.now s.b.now).yes (sym c.well_formed-2.ensures ∙ not-false c.well_formed-2.result c.if-not-well_formed.false-raw)
+    (by_well_formed s.n s.ma s.mb s.a.now s.b.now).yes (sym c.well_formed-2.ensures ∙ c.if-not-well_formed.false)
 
 pub returns-then-not-shape : goal.returns-then-not-shape
-returns-then-not-shape c = answer c.before.before (says_1 (decides_no (by_shape c.args.n c.args.ma c.args.mb c.args.a.now c.args.b.now) (sym c.shape.ensures ∙ not-true c.shape.result c.if-not-shape.true-raw)))
+returns-then-not-shape c = answer c.before.before (says_1 (decides_no (by_shape c.args.n c.args.ma c.args.mb c.args.a.now c.args.b.now) (sym c.shape.ensures ∙ c.if-not-shape.true)))
 
 pub returns-then-long-n : goal.returns-then-long-n
 returns-then-long-n c = answer c.before.before.before (says_2 (shape-holds c.before) c.if-long-n.true)
 
 pub returns-then-not-well_formed : goal.returns-then-not-well_formed
 returns-then-not-well_formed c =
-    answer c.before.before.before.before.before (says_3 (shape-holds c.before.before.before) c.if-long-n.false (decides_no (by_well_formed c.args.n c.args.ma c.args.mb c.args.a.now c.args.b.now) (sym c.well_formed-2.ensures ∙ not-true c.well_formed-2.result c.if-not-well_formed.true-raw)))
+    answer c.before.before.before.before.before (says_3 (shape-holds c.before.before.before) c.if-long-n.false (decides_no (by_well_formed c.args.n c.args.ma c.args.mb c.args.a.now c.args.b.now) (sym c.well_formed-2.ensures ∙ c.if-not-well_formed.true)))
 
 pub vector_refusal-requires : goal.vector_refusal-requires
 vector_refusal-requires c = well-formed c

@@ -2,7 +2,6 @@ use mathlib.Core.Path.{◌≡◌, refl, sym, ◌∙◌, ap, ap₂}
 use mathlib.Core.Bool.{Bool, true, false, not, ◌&&◌}
 use mathlib.Core.List.{List}
 use Prim.Native.Nat.{ℕ, ◌+◌}
-use borrow.Author.Tests.{not-true, not-false}
 use lib.IntN.{ℤ, ◌*ℤ◌}
 use Rattle.integers.specs.Divisibility.{divides}
 use Rattle.integers.specs.Below.{all_below}
@@ -69,27 +68,27 @@ constants-are c =
 
 -- the tests passed so far
 columns-pass : (c : Else-not-divides_columns) → Columns c.before.before c.args.q ≡ true
-columns-pass c = sym (columns-are c.before) ∙ not-false c.divides_columns.result c.if-not-divides_columns.false-raw
+columns-pass c = sym (columns-are c.before) ∙ c.if-not-divides_columns.false
 
 moduli-a-pass : (c : Else-not-divides_moduli) → ModuliA c.before.before.before.before c.args.q ≡ true
-moduli-a-pass c = sym (moduli-a-are c.before) ∙ not-false c.divides_moduli.result c.if-not-divides_moduli.false-raw
+moduli-a-pass c = sym (moduli-a-are c.before) ∙ c.if-not-divides_moduli.false
 
 moduli-pass : (c : Else-not-divides_moduli-2) → ModuliA c.before.before.before.before.before.before c.args.q && ModuliB c.before.before.before.before.before.before c.args.q ≡ true
-moduli-pass c = ap₂ (λ (x y : Bool). x && y) (moduli-a-pass c.before.before) (sym (moduli-b-are c.before) ∙ not-false c.divides_moduli-2.result c.if-not-divides_moduli-2.false-raw)
+moduli-pass c = ap₂ (λ (x y : Bool). x && y) (moduli-a-pass c.before.before) (sym (moduli-b-are c.before) ∙ c.if-not-divides_moduli-2.false)
 
 pub returns-then-not-divides_columns : goal.returns-then-not-divides_columns
 returns-then-not-divides_columns c =
-    answer c.before.before false (ModuliA c.before.before c.args.q && ModuliB c.before.before c.args.q) (Constants c.before.before c.args.q) (sym (columns-are c.before) ∙ not-true c.divides_columns.result c.if-not-divides_columns.true-raw) refl refl
+    answer c.before.before false (ModuliA c.before.before c.args.q && ModuliB c.before.before c.args.q) (Constants c.before.before c.args.q) (sym (columns-are c.before) ∙ c.if-not-divides_columns.true) refl refl
 
 pub returns-then-not-divides_moduli : goal.returns-then-not-divides_moduli
 returns-then-not-divides_moduli c =
     answer c.before.before.before.before true false (Constants c.before.before.before.before c.args.q) (columns-pass c.before.before)
-    (ap (λ (x : Bool). x && ModuliB c.before.before.before.before c.args.q) (sym (moduli-a-are c.before) ∙ not-true c.divides_moduli.result c.if-not-divides_moduli.true-raw)) refl
+    (ap (λ (x : Bool). x && ModuliB c.before.before.before.before c.args.q) (sym (moduli-a-are c.before) ∙ c.if-not-divides_moduli.true)) refl
 
 pub returns-then-not-divides_moduli-2 : goal.returns-then-not-divides_moduli-2
 returns-then-not-divides_moduli-2 c =
     answer c.before.before.before.before.before.before true false (Constants c.before.before.before.before.before.before c.args.q) (columns-pass c.before.before.before.before)
-    (ap₂ (λ (x y : Bool). x && y) (moduli-a-pass c.before.before) (sym (moduli-b-are c.before) ∙ not-true c.divides_moduli-2.result c.if-not-divides_moduli-2.true-raw)) refl
+    (ap₂ (λ (x y : Bool). x && y) (moduli-a-pass c.before.before) (sym (moduli-b-are c.before) ∙ c.if-not-divides_moduli-2.true)) refl
 
 pub returns-then-divides : goal.returns-then-divides
 returns-then-divides c =

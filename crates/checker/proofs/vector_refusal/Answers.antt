@@ -2,7 +2,6 @@ use mathlib.Core.Path.{◌≡◌, refl, sym, ◌∙◌, ap, ap₂}
 use mathlib.Core.Bool.{Bool, true, false}
 use mathlib.Core.List.{List}
 use Prim.Native.Nat.{ℕ}
-use borrow.Author.Tests.{not-true, not-false}
 use lib.IntN.{ℤ}
 use Rattle.integers.proofs.Laws.Bits.{stored_is}
 use Rattle.problem.specs.Rows.{Rows, rows_of}
@@ -26,16 +25,16 @@ vector-is : (c : After-is_vector) → c.is_vector.result ≡ is_vector (rows c.b
 vector-is c = c.is_vector.ensures ∙ ap (λ (q : ℤ). is_vector (rows c.before).m q c.args.p.now) (stored_is c.ranges.q)
 
 vector-pass : (c : Else-not-is_vector) → is_vector (rows c.before.before).m c.args.q c.args.p.now ≡ true
-vector-pass c = sym (vector-is c.before) ∙ not-false c.is_vector.result c.if-not-is_vector.false-raw
+vector-pass c = sym (vector-is c.before) ∙ c.if-not-is_vector.false
 
 numerators-pass : (c : Else-not-are_numerators) → are_numerators (rows c.before.before.before.before).m (numerator c.args.p.now) ≡ true
-numerators-pass c = sym c.are_numerators.ensures ∙ not-false c.are_numerators.result c.if-not-are_numerators.false-raw
+numerators-pass c = sym c.are_numerators.ensures ∙ c.if-not-are_numerators.false
 
 pub returns-then-not-is_vector : goal.returns-then-not-is_vector
-returns-then-not-is_vector c = answer c.before.before false (are_numerators (rows c.before.before).m (numerator c.args.p.now)) (sym (vector-is c.before) ∙ not-true c.is_vector.result c.if-not-is_vector.true-raw) refl
+returns-then-not-is_vector c = answer c.before.before false (are_numerators (rows c.before.before).m (numerator c.args.p.now)) (sym (vector-is c.before) ∙ c.if-not-is_vector.true) refl
 
 pub returns-then-not-are_numerators : goal.returns-then-not-are_numerators
-returns-then-not-are_numerators c = answer c.before.before.before.before true false (vector-pass c.before.before) (sym c.are_numerators.ensures ∙ not-true c.are_numerators.result c.if-not-are_numerators.true-raw)
+returns-then-not-are_numerators c = answer c.before.before.before.before true false (vector-pass c.before.before) (sym c.are_numerators.ensures ∙ c.if-not-are_numerators.true)
 
 pub sums_refusal-requires : goal.sums_refusal-requires
 sums_refusal-requires c = record { well-formed = c.requires; numerators = (by_numerators (rows c.before.before.before.before).m (numerator c.args.p.now)).yes (numerators-pass c) }

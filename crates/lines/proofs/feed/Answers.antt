@@ -1,6 +1,5 @@
 use mathlib.Core.Path.{◌≡◌, sym, ◌∙◌}
 use Prim.Native.Nat.{ℕ, ◌≤◌}
-use borrow.Author.Tests.{not-true, not-false}
 use lib.ListN.{length}
 use mathlib.Core.List.{List}
 use Rattle.lines.specs.Lines.{end_from}
@@ -17,15 +16,15 @@ bounds chunk at end inside e = rw e (end_after chunk at, end_within chunk at ins
 pub returns-then-not-is_fit : goal.returns-then-not-is_fit
 returns-then-not-is_fit c =
     let a = c.args in
-    let w = fed_unfit a.chunk.now a.at a.carry.now a.held a.out.now a.made (sym c.is_fit.ensures ∙ not-true c.is_fit.result c.if-not-is_fit.true-raw) in
+    let w = fed_unfit a.chunk.now a.at a.carry.now a.held a.out.now a.made (sym c.is_fit.ensures ∙ c.if-not-is_fit.true) in
     record { value = w.0; carry_after = w.1.0; out_after = w.1.1 }
 
 pub line_end-end-requires : goal.line_end-end-requires
-line_end-end-requires c = let a = c.args in (fitting a.chunk.now a.at a.carry.now a.held a.out.now a.made (sym c.is_fit.ensures ∙ not-false c.is_fit.result c.if-not-is_fit.false-raw)).inside
+line_end-end-requires c = let a = c.args in (fitting a.chunk.now a.at a.carry.now a.held a.out.now a.made (sym c.is_fit.ensures ∙ c.if-not-is_fit.false)).inside
 
 pub answer-place-requires : goal.answer-place-requires
 answer-place-requires c = let a = c.args in
-    let f = fitting a.chunk.now a.at a.carry.now a.held a.out.now a.made (sym c.is_fit.ensures ∙ not-false c.is_fit.result c.if-not-is_fit.false-raw) in
+    let f = fitting a.chunk.now a.at a.carry.now a.held a.out.now a.made (sym c.is_fit.ensures ∙ c.if-not-is_fit.false) in
     record {
       at_le_end = bounds a.chunk.now a.at c.line_end-end.result f.inside c.line_end-end.ensures;
       carry_len = (f.kept.long, f.kept.few);
@@ -35,13 +34,13 @@ pub returns-then-end-chunk : goal.returns-then-end-chunk
 returns-then-end-chunk c =
     let said = c.answer-place in
     let a = c.args in
-    let w = fed_line a.chunk.now a.at a.carry.now a.held a.out.now a.made (sym c.is_fit.ensures ∙ not-false c.is_fit.result c.if-not-is_fit.false-raw) c.line_end-end.result c.line_end-end.ensures c.if-end-chunk.true
+    let w = fed_line a.chunk.now a.at a.carry.now a.held a.out.now a.made (sym c.is_fit.ensures ∙ c.if-not-is_fit.false) c.line_end-end.result c.line_end-end.ensures c.if-end-chunk.true
     said.ensures.value said.ensures.carry_after said.ensures.out_after in
     record { value = w.0; carry_after = w.1.0; out_after = w.1.1 }
 
 pub keep-kept-requires : goal.keep-kept-requires
 keep-kept-requires c = let a = c.args in
-    let f = fitting a.chunk.now a.at a.carry.now a.held a.out.now a.made (sym c.is_fit.ensures ∙ not-false c.is_fit.result c.if-not-is_fit.false-raw) in
+    let f = fitting a.chunk.now a.at a.carry.now a.held a.out.now a.made (sym c.is_fit.ensures ∙ c.if-not-is_fit.false) in
     record {
       at_le_end = bounds a.chunk.now a.at c.line_end-end.result f.inside c.line_end-end.ensures;
       carry_len = (f.kept.long, f.kept.few);
@@ -51,5 +50,5 @@ pub returns : goal.returns
 returns c =
     let said = c.keep-kept in
     let a = c.args in
-    let w = fed_kept a.chunk.now a.at a.carry.now a.held a.out.now a.made (sym c.is_fit.ensures ∙ not-false c.is_fit.result c.if-not-is_fit.false-raw) c.line_end-end.result c.line_end-end.ensures c.if-end-chunk.false said.ensures.value said.ensures.carry_after in
+    let w = fed_kept a.chunk.now a.at a.carry.now a.held a.out.now a.made (sym c.is_fit.ensures ∙ c.if-not-is_fit.false) c.line_end-end.result c.line_end-end.ensures c.if-end-chunk.false said.ensures.value said.ensures.carry_after in
     record { value = w.0; carry_after = w.1.0; out_after = w.1.1 }

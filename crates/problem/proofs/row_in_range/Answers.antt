@@ -2,7 +2,6 @@ use mathlib.Core.Path.{◌≡◌, sym, ◌∙◌, ap, ap₂}
 use mathlib.Core.Bool.{Bool, true, false, not, ◌&&◌}
 use Prim.Native.Nat.{ℕ}
 use native.Mathlib.Omega.{arith}
-use borrow.Author.Tests.{not-true, not-false}
 use Rattle.integers.specs.Range.{is_negative, within}
 use Rattle.integers.specs.Below.{all_below}
 use Rattle.integers.proofs.Laws.Bits.{stored, stored_is}
@@ -39,12 +38,12 @@ pub returns-then-not-within : goal.returns-then-not-within
 returns-then-not-within c =
     let l = c.before.before.before.before in
     let s = l.before in
-    let e = sym (coef-test c.before) ∙ not-true c.before.within.result c.if-not-within.true-raw in
+    let e = sym (coef-test c.before) ∙ c.if-not-within.true in
     wrong s.args.n (side s) s.args.i (λ r. decides_no (by_within million ((side s).coef s.args.i l.loop-j.j)) e (r.coef_in l.loop-j.j c.before.before.before.loop-j-test.true))
 
 pub loop-j-preserved : goal.loop-j-preserved
 loop-j-preserved c =
     let l = c.before.before.before.before in
     let s = l.before in
-    let e = sym (coef-test c.before) ∙ not-false c.before.within.result c.if-not-within.false-raw in
+    let e = sym (coef-test c.before) ∙ c.if-not-within.false in
     (omega arith, all_more l.loop-j.j (λ k. within million ((side s).coef s.args.i k)) ∙ ap₂ (λ (x y : Bool). x && y) l.loop-j.invariant.1 e)

@@ -3,7 +3,6 @@ use mathlib.Core.Bool.{Bool, true, false, ◌&&◌}
 use mathlib.Core.List.{List}
 use Prim.Native.Nat.{ℕ, ◌≤◌}
 use native.Mathlib.Omega.{arith}
-use borrow.Author.Tests.{not-true, not-false}
 use lib.IntN.{ℤ}
 use Rattle.problem.specs.Rows.{side_of}
 use Rattle.problem.specs.WellFormed.{shape, in_ranges, well_formed}
@@ -25,21 +24,21 @@ module _ (n ma mb : ℕ) (a b : List ℤ) where
     second t e = sym (ap₂ (λ (s u : Bool). s && (u && in_ranges n (side_of n mb b))) shaped e)
 
 shaped : (c : Else-not-shape) → let s = c.before.before.args in shape s.n s.ma s.mb s.a.now s.b.now ≡ true
-shaped c = sym c.before.shape.ensures ∙ not-false c.before.shape.result c.if-not-shape.false-raw
+shaped c = sym c.before.shape.ensures ∙ c.if-not-shape.false
 
 pub returns-then-not-shape : goal.returns-then-not-shape
 returns-then-not-shape c = let s = c.before.before.args in
-    not-shape s.n s.ma s.mb s.a.now s.b.now (sym c.before.shape.ensures ∙ not-true c.before.shape.result c.if-not-shape.true-raw)
+    not-shape s.n s.ma s.mb s.a.now s.b.now (sym c.before.shape.ensures ∙ c.if-not-shape.true)
 
 pub returns-then-not-in_ranges : goal.returns-then-not-in_ranges
 returns-then-not-in_ranges c =
     let s = c.before.before.before.before.args in
     second s.n s.ma s.mb s.a.now s.b.now (shaped c.before.before) false
-    (sym c.before.in_ranges.ensures ∙ not-true c.before.in_ranges.result c.if-not-in_ranges.true-raw)
+    (sym c.before.in_ranges.ensures ∙ c.if-not-in_ranges.true)
 
 pub returns : goal.returns
 returns c =
     let s = c.before.before.before.before.before.args in
     c.in_ranges-2.ensures
     ∙ second s.n s.ma s.mb s.a.now s.b.now (shaped c.before.before.before) true
-    (sym c.before.before.in_ranges.ensures ∙ not-false c.before.before.in_ranges.result c.before.if-not-in_ranges.false-raw)
+    (sym c.before.before.in_ranges.ensures ∙ c.before.if-not-in_ranges.false)

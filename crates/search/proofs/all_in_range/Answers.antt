@@ -2,7 +2,6 @@ use mathlib.Core.Path.{◌≡◌, sym, ◌∙◌, ap}
 use mathlib.Core.Bool.{Bool}
 use Prim.Native.Nat.{ℕ}
 use native.Mathlib.Omega.{arith}
-use borrow.Author.Tests.{not-true, not-false}
 use Rattle.integers.specs.Range.{within}
 use Rattle.integers.specs.Run.{at}
 use Rattle.integers.proofs.Laws.Bits.{stored_is}
@@ -23,10 +22,10 @@ loop-i-init c = (omega arith, all_none (test c))
 
 pub returns-then-not-within : goal.returns-then-not-within
 returns-then-not-within c =
-    let e = sym (tested c.before) ∙ not-true c.within.result c.if-not-within.true-raw in
+    let e = sym (tested c.before) ∙ c.if-not-within.true in
     all_stop 12 (test c.before.before.before.before.before) c.loop-i.i c.loop-i-test.true e
 
 pub loop-i-preserved : goal.loop-i-preserved
 loop-i-preserved c =
-    let e = sym (tested c.before) ∙ not-false c.within.result c.if-not-within.false-raw in
+    let e = sym (tested c.before) ∙ c.if-not-within.false in
     (omega arith, all_onward 12 (test c.before.before.before.before.before) c.loop-i.i c.loop-i.invariant.1 e)

@@ -2,7 +2,6 @@ use mathlib.Core.Path.{◌≡◌, sym, ◌∙◌, ap}
 use mathlib.Core.Bool.{Bool}
 use Prim.Native.Nat.{ℕ}
 use native.Mathlib.Omega.{arith}
-use borrow.Author.Tests.{not-true, not-false}
 use Rattle.integers.specs.Range.{within}
 use Rattle.integers.specs.Run.{at}
 use Rattle.integers.proofs.Laws.Bits.{stored_is}
@@ -23,10 +22,10 @@ loop-k-init c = (omega arith, all_none (test c))
 
 pub returns-then-not-in_bound : goal.returns-then-not-in_bound
 returns-then-not-in_bound c =
-    let e = sym (tested c.before) ∙ not-true c.in_bound.result c.if-not-in_bound.true-raw in
+    let e = sym (tested c.before) ∙ c.if-not-in_bound.true in
     all_stop c.args.n (test c.before.before.before.before.before) c.loop-k.k c.loop-k-test.true e
 
 pub loop-k-preserved : goal.loop-k-preserved
 loop-k-preserved c =
-    let e = sym (tested c.before) ∙ not-false c.in_bound.result c.if-not-in_bound.false-raw in
+    let e = sym (tested c.before) ∙ c.if-not-in_bound.false in
     (omega arith, all_onward c.args.n (test c.before.before.before.before.before) c.loop-k.k c.loop-k.invariant.1 e)

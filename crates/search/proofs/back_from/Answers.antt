@@ -3,7 +3,6 @@ use mathlib.Core.List.{List}
 use mathlib.Core.Bool.{true}
 use Prim.Native.Nat.{ℕ, suc, ◌-◌, ◌≤◌}
 use native.Mathlib.Omega.{arith}
-use borrow.Author.Tests.{not-true, not-false}
 use lib.ListN.{get_or}
 use lib.IntN.{ℤ, nat_abs}
 use Rattle.search.specs.Table.{bound, Bounded}
@@ -27,7 +26,7 @@ onward t m pivots count i k v next b e = record {
 pub returns-then-not-ok : goal.returns-then-not-ok
 returns-then-not-ok c =
     let a = c.args in
-    sym (back_stops a.m a.cells.now (λ j. get_or a.pivots.now j 0) c.loop-k.k c.loop-k.v (not-true _ c.if-not-ok.true-raw)) ∙ c.loop-k.invariant.2
+    sym (back_stops a.m a.cells.now (λ j. get_or a.pivots.now j 0) c.loop-k.k c.loop-k.v (c.if-not-ok.true)) ∙ c.loop-k.invariant.2
 
 pub loop-k-preserved : goal.loop-k-preserved
 loop-k-preserved c =
@@ -38,7 +37,7 @@ loop-k-preserved c =
       omega arith,
       onward a.cells.now a.m a.pivots.now a.count (pivot (k - 1)) (k - 1) c.loop-k.v c.back_one-v.result c.loop-k.invariant.1 c.back_one-v.ensures,
       ap (back_from (k - 1) a.m a.cells.now pivot) c.back_one-v.ensures
-          ∙ sym (back_more a.m a.cells.now pivot (k - 1) c.loop-k.v (not-false _ c.if-not-ok.false-raw))
+          ∙ sym (back_more a.m a.cells.now pivot (k - 1) c.loop-k.v (c.if-not-ok.false))
           ∙ ap (λ (n : ℕ). back_from n a.m a.cells.now pivot c.loop-k.v) up ∙ c.loop-k.invariant.2,
     )
 

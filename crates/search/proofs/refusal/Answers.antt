@@ -2,7 +2,6 @@ use mathlib.Core.Path.{◌≡◌, refl, sym, ◌∙◌, ap}
 use mathlib.Core.Bool.{Bool, true, false, cond}
 use mathlib.Core.List.{List}
 use Prim.Native.Nat.{ℕ}
-use borrow.Author.Tests.{not-true, not-false}
 use lib.IntN.{ℤ}
 use Rattle.problem.specs.WellFormed.{shape, well_formed}
 use Rattle.search.specs.Answer.{refusal_of}
@@ -27,21 +26,21 @@ answer : (s : Start) (t u w : Bool) → Shaped s ≡ t → s.args.fit ≡ u → 
 answer s = by_tests s.args.n s.args.ma s.args.mb s.args.a.now s.args.b.now s.args.fit
 
 shape-pass : (c : Else-not-shape) → Shaped c.before.before ≡ true
-shape-pass c = sym c.shape.ensures ∙ not-false c.shape.result c.if-not-shape.false-raw
+shape-pass c = sym c.shape.ensures ∙ c.if-not-shape.false
 
 fit-pass : (c : Else-not-fit) → c.args.fit ≡ true
-fit-pass c = not-false c.args.fit c.if-not-fit.false-raw
+fit-pass c = c.if-not-fit.false
 
 pub returns-then-not-shape : goal.returns-then-not-shape
-returns-then-not-shape c = answer c.before.before false c.args.fit (Formed c.before.before) (sym c.shape.ensures ∙ not-true c.shape.result c.if-not-shape.true-raw) refl refl
+returns-then-not-shape c = answer c.before.before false c.args.fit (Formed c.before.before) (sym c.shape.ensures ∙ c.if-not-shape.true) refl refl
 
 pub returns-then-not-fit : goal.returns-then-not-fit
-returns-then-not-fit c = answer c.before.before.before true false (Formed c.before.before.before) (shape-pass c.before) (not-true c.args.fit c.if-not-fit.true-raw) refl
+returns-then-not-fit c = answer c.before.before.before true false (Formed c.before.before.before) (shape-pass c.before) (c.if-not-fit.true) refl
 
 pub returns-then-not-well_formed : goal.returns-then-not-well_formed
 returns-then-not-well_formed c =
-    answer c.before.before.before.before.before true true false (shape-pass c.before.before.before) (fit-pass c.before.before) (sym c.well_formed-2.ensures ∙ not-true c.well_formed-2.result c.if-not-well_formed.true-raw)
+    answer c.before.before.before.before.before true true false (shape-pass c.before.before.before) (fit-pass c.before.before) (sym c.well_formed-2.ensures ∙ c.if-not-well_formed.true)
 
 pub returns : goal.returns
 returns c =
-    answer c.before.before.before.before.before true true true (shape-pass c.before.before.before) (fit-pass c.before.before) (sym c.well_formed-2.ensures ∙ not-false c.well_formed-2.result c.if-not-well_formed.false-raw)
+    answer c.before.before.before.before.before true true true (shape-pass c.before.before.before) (fit-pass c.before.before) (sym c.well_formed-2.ensures ∙ c.if-not-well_formed.false)

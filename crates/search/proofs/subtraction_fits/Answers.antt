@@ -2,7 +2,6 @@ use mathlib.Core.Path.{◌≡◌, sym, ◌∙◌, ap, ap₂}
 use mathlib.Core.Bool.{Bool}
 use Prim.Native.Nat.{ℕ}
 use native.Mathlib.Omega.{arith}
-use borrow.Author.Tests.{not-true, not-false}
 use Rattle.integers.specs.Range.{within}
 use Rattle.integers.proofs.Laws.Bits.{stored, stored_is}
 use Rattle.integers.proofs.Laws.Below.{all_none, all_onward, all_stop}
@@ -29,11 +28,11 @@ loop-i-init c = (omega arith, all_none (test c))
 
 pub returns-then-not-in_bound : goal.returns-then-not-in_bound
 returns-then-not-in_bound c =
-    let e = sym (tested c.before) ∙ not-true c.in_bound.result c.if-not-in_bound.true-raw in
+    let e = sym (tested c.before) ∙ c.if-not-in_bound.true in
     all_stop 36 (test c.before.before.before.before.before.before.before) c.loop-i.i (omega arith) e
     ∙ ap (subtraction_fits c.args.cells.now c.args.first c.args.second) (stored_is c.ranges.q)
 
 pub loop-i-preserved : goal.loop-i-preserved
 loop-i-preserved c =
-    let e = sym (tested c.before) ∙ not-false c.in_bound.result c.if-not-in_bound.false-raw in
+    let e = sym (tested c.before) ∙ c.if-not-in_bound.false in
     (omega arith, all_onward 36 (test c.before.before.before.before.before.before.before) c.loop-i.i c.loop-i.invariant.1 e)

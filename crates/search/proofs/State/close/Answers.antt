@@ -3,7 +3,7 @@ use mathlib.Core.List.{List}
 use mathlib.Core.Bool.{Bool, true, false}
 use Prim.Native.Nat.{◌<◌, ◌≤◌, ◌^◌}
 use native.Mathlib.Omega.{arith}
-use borrow.Author.Tests.{not-true, not-false, eqb-false}
+use borrow.Author.Tests.{eqb-false}
 use lib.IntN.{ℤ, pos, nat_abs, ◌-ℤ◌}
 use lib.Signed.{quot_z}
 use Rattle.integers.specs.Range.{is_zero, within}
@@ -118,7 +118,7 @@ go-on-way : (c : After-is_zero) (b : Bool) → c.is_zero.result ≡ b → let s 
 unfolding close_by
 go-on-way c b h =
     let s = of_zero c in
-    ap (λ (x : Bool). go_on_by x (S s) (T s) (E s)) (sym h ∙ zero_is c) ∙ close-way (tested c.before) true (not-false _ c.if-not-divides.false-raw)
+    ap (λ (x : Bool). go_on_by x (S s) (T s) (E s)) (sym h ∙ zero_is c) ∙ close-way (tested c.before) true (c.if-not-divides.false)
 
 place-way : (c : After-in_bound) (b : Bool) → c.in_bound.result ≡ b → let s = of-within c in place_by b (S s) (T s) (Z s) ≡ close_of (S s) s.args.j
 unfolding go_on_by
@@ -136,7 +136,7 @@ less-r-requires c =
 pub returns-then-not-divides : goal.returns-then-not-divides
 returns-then-not-divides c =
     let s = of-divides c.before.before in
-    c.refute.ensures ∙ ap (close_by false (S s) (T s)) (pivot-is c.before.before) ∙ close-way c.before.before false (not-true _ c.if-not-divides.true-raw)
+    c.refute.ensures ∙ ap (close_by false (S s) (T s)) (pivot-is c.before.before) ∙ close-way c.before.before false (c.if-not-divides.true)
 
 pub close_last-requires : goal.close_last-requires
 close_last-requires c =
@@ -145,7 +145,7 @@ close_last-requires c =
 pub returns-then-row-given : goal.returns-then-row-given
 returns-then-row-given c =
     let s = of-divides c.before.before.before.before in
-    c.close_last.ensures ∙ ap (close_by true (S s) (T s)) (pivot-is c.before.before.before.before) ∙ close-way c.before.before.before.before true (not-false _ c.if-not-divides.false-raw)
+    c.close_last.ensures ∙ ap (close_by true (S s) (T s)) (pivot-is c.before.before.before.before) ∙ close-way c.before.before.before.before true (c.if-not-divides.false)
 
 pub returns-then-is_zero : goal.returns-then-is_zero
 unfolding passed go_on_by

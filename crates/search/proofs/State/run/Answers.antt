@@ -2,7 +2,6 @@ use mathlib.Core.Path.{◌≡◌, sym, ◌∙◌, ap, subst⁻¹}
 use mathlib.Core.Bool.{true}
 use Prim.Native.Nat.{◌<◌}
 use native.Mathlib.Omega.{arith}
-use borrow.Author.Tests.{not-true, not-false}
 use Rattle.search.specs.State.{State}
 use Rattle.search.specs.Step.{step_of}
 use Rattle.search.specs.Run.{is_unfinished, after}
@@ -14,7 +13,7 @@ use Rattle.search.proofs.State.run.Goals.{Else-not-is_unfinished}
 -- unfinished where the loop goes on
 goes : (c : Else-not-is_unfinished) → is_unfinished (after c.loop-b.b c.args.self).outcome ≡ true
 goes c =
-    ap (λ (t : State). is_unfinished t.outcome) (sym c.loop-b.invariant.1) ∙ sym c.is_unfinished.ensures ∙ not-false _ c.if-not-is_unfinished.false-raw
+    ap (λ (t : State). is_unfinished t.outcome) (sym c.loop-b.invariant.1) ∙ sym c.is_unfinished.ensures ∙ c.if-not-is_unfinished.false
 
 pub loop-b-init : goal.loop-b-init
 loop-b-init c = (omega arith, after_none c.args.self)
@@ -23,7 +22,7 @@ pub returns-then-not-is_unfinished : goal.returns-then-not-is_unfinished
 returns-then-not-is_unfinished c =
     let e = c.loop-b.invariant.1 in
     e ∙ sym (after_stops c.args.self c.loop-b.b c.args.budget c.loop-b.invariant.0
-    (ap (λ (t : State). is_unfinished t.outcome) (sym e) ∙ sym c.is_unfinished.ensures ∙ not-true _ c.if-not-is_unfinished.true-raw))
+    (ap (λ (t : State). is_unfinished t.outcome) (sym e) ∙ sym c.is_unfinished.ensures ∙ c.if-not-is_unfinished.true))
 
 pub step-s-requires : goal.step-s-requires
 step-s-requires c =
