@@ -441,6 +441,7 @@ fn changed(change: Change, x: i64) -> i64
 }
 
 // The residue of x in 0..m - 1.
+#[tactic(auto, using(integers::proofs::Laws::Bits::fits_rem), unfolding(crate::specs::NormalForm::residue))]
 fn residue(x: i64, m: i64) -> i64
     requires { (nat_abs x ≤ largest) × (0 < nat_abs m) × (nat_abs m ≤ largest) }
     ensures { result ≡ residue m x }

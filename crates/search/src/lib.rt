@@ -142,6 +142,7 @@ pub fn table_after(
 }
 
 // The first refusal of a problem whose lent runs fit or not, 0 if there is none.
+#[tactic(auto, unfolding(crate::specs::Answer::refusal_of))]
 fn refusal(n: usize, ma: usize, mb: usize, a: &[i64], b: &[i64], fit: bool) -> u8
     ensures { result ≡ refusal_of n ma mb a.now b.now fit }
 {
@@ -223,6 +224,7 @@ impl State {
     }
 
     // As many steps as the budget allows, or as there are.
+    #[tactic(auto, using(crate::proofs::Laws::Run::after_none, crate::proofs::Laws::Run::after_more, crate::proofs::Laws::Run::after_stops))]
     fn run(self, budget: u32) -> State
         requires { Sound self × (self.steps ≡ 0) }
         ensures { result ≡ after budget self }
@@ -631,6 +633,7 @@ fn negate_column(cells: &mut [i64; 864], j: usize)
 }
 
 // Brings the one nonzero column of a row to its pivot's place, and makes its entry positive.
+#[tactic(auto, using(integers::proofs::Laws::Bits::stored_is), unfolding(crate::specs::Step::close_table, crate::specs::Step::swap_by, crate::specs::Step::negate_by))]
 fn close_table(cells: &mut [i64; 864], row: usize, j: usize, r: usize)
     requires { (row < 36) × (j < 24) × (r < 24) × Bounded cells.old }
     ensures { cells.new ≡ close_table cells.old row j r }
