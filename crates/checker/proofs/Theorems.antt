@@ -3,8 +3,8 @@
 --     Accepted    accepted_is  refused_is              a vector is accepted, or refused with k, exactly in its case
 --                 judge_number_is                      and so the answer has its number
 --     Refuted     no_point  refuted                    an accepted vector leaves no point that meets both sides
---     Implied     implied  excluded  only-shared       A implies the interpolant, B excludes it, it has shared variables only
---                 left-out                             M divides A's column sums at the others
+--     Implied     implied  excluded  only_shared       A implies the interpolant, B excludes it, it has shared variables only
+--                 left_out                             M divides A's column sums at the others
 --     Normal      normal_same  normal-form             the normal form says the same as the fact, and is normal
 --                 interpolant_same  interpolant_form   so does, and so is, the interpolant
 --     Largest     projected                            the interpolant loses nothing of A's weighted row

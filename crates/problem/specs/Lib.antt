@@ -1,9 +1,9 @@
 -- What a problem is and means, in the order of the paper's section "The problem and its rows".
 --
---     Rows          Rows  side_of  both  rows_of         rows, a lent run read as rows, A's rows and then B's
---     Points        MeetsRow  Meets                    a point meets a row, and each row of a side
---     WellFormed    Shape  Ranges  shape  well_formed  the counts, lengths and ranges that refusals 1 and 3 ask for
---     Occurrence    counts  occurs  shared  local_a    which variables occur where
+--     Rows         Rows  side_of  both  rows_of         rows, a lent run read as rows, A's rows and then B's
+--     Points       MeetsRow  Meets                      a point meets a row, and each row of a side
+--     WellFormed   Shape  Ranges  shape  well_formed    the counts, lengths and ranges that refusals 1 and 3 ask for
+--     Occurrence   counts  occurs  shared  local_a      which variables occur where
 pub mod Rows
 pub mod Points
 pub mod WellFormed

@@ -1,5 +1,6 @@
 use mathlib.Core.Path.{◌≡◌, sym, ◌∙◌, ap}
 use Prim.Native.Nat.{ℕ}
+use native.Mathlib.Omega.{arith}
 use lib.IntN.{ℤ}
 use Rattle.integers.proofs.Laws.Bits.{stored_is}
 use Rattle.integers.proofs.Laws.Decide.{decides_no}
@@ -29,17 +30,19 @@ pub returns-then-not-shape : goal.returns-then-not-shape
 returns-then-not-shape c = answer c.before.before (says_1 (decides_no (by_shape c.args.n c.args.ma c.args.mb c.args.a.now c.args.b.now) (sym c.shape.ensures ∙ c.if-not-shape.true)))
 
 pub returns-then-long-n : goal.returns-then-long-n
-returns-then-long-n c = answer c.before.before.before (says_2 (shape-holds c.before) c.if-long-n.true)
+returns-then-long-n c = answer c.before.before.before (says_2 (shape-holds c.before) (λ e. omega (arith, e)))
 
 pub returns-then-not-well_formed : goal.returns-then-not-well_formed
 returns-then-not-well_formed c =
-    answer c.before.before.before.before.before (says_3 (shape-holds c.before.before.before) c.if-long-n.false (decides_no (by_well_formed c.args.n c.args.ma c.args.mb c.args.a.now c.args.b.now) (sym c.well_formed-2.ensures ∙ c.if-not-well_formed.true)))
+    let same : c.args.long ≡ c.args.n = omega arith in
+    answer c.before.before.before.before.before (says_3 (shape-holds c.before.before.before) same (decides_no (by_well_formed c.args.n c.args.ma c.args.mb c.args.a.now c.args.b.now) (sym c.well_formed-2.ensures ∙ c.if-not-well_formed.true)))
 
 pub vector_refusal-requires : goal.vector_refusal-requires
 vector_refusal-requires c = well-formed c
 
 pub returns : goal.returns
 returns c =
+    let same : c.args.long ≡ c.args.n = omega arith in
     c.vector_refusal.ensures
     ∙ ap (λ (q : ℤ). vector_refusal c.args.n (rows_of c.args.n c.args.ma c.args.mb c.args.a.now c.args.b.now) q c.args.p.now) (stored_is c.ranges.q)
-    ∙ sym (at_vector c.args.n c.args.ma c.args.mb c.args.a.now c.args.b.now c.args.q c.args.p.now c.args.long (well-formed c.before) c.if-long-n.false)
+    ∙ sym (at_vector c.args.n c.args.ma c.args.mb c.args.a.now c.args.b.now c.args.q c.args.p.now c.args.long (well-formed c.before) same)
