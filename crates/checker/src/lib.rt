@@ -60,13 +60,14 @@ fn refusal(
 ) -> u8
     ensures { result ≡ refusal n ma mb a.now b.now q p.now long }
 {
-    if !problem::shape(n, ma, mb, a, b) {
+    let problem = problem::Problem { n, ma, mb, a, b };
+    if !problem.has_shape() {
         return 1;
     }
     if long != n {
         return 2;
     }
-    if !problem::well_formed(n, ma, mb, a, b) {
+    if !problem.is_well_formed() {
         return 3;
     }
     vector_refusal(n, ma, mb, a, b, q, p)

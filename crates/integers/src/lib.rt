@@ -2,10 +2,11 @@
 // Each function takes any numbers.
 #![tactic(auto)]
 
-ghost use Rattle.std.specs.Prelude.{◌≡◌, nat_abs};
+ghost use Rattle.std.specs.Prelude.{◌≡◌, nat_abs, length};
 ghost use Rattle.integers.specs.Range.{is_zero, is_negative, within};
 ghost use Rattle.integers.specs.Divisibility.{divides};
 ghost use Rattle.integers.specs.Gcd.{gcd_ℕ};
+ghost use Rattle.integers.specs.Below.{all_below};
 ghost use Rattle.integers.specs.Run.{at};
 
 // Whether x is 0.
@@ -26,11 +27,7 @@ pub fn is_negative(x: i64) -> bool
 pub fn magnitude(x: i64) -> u64
     ensures { result ≡ nat_abs x }
 {
-    if x < 0 {
-        (-(x + 1)) as u64 + 1
-    } else {
-        x as u64
-    }
+    x.unsigned_abs()
 }
 
 // Whether x lies in -bound..bound.
@@ -44,24 +41,16 @@ pub fn within(bound: u64, x: i64) -> bool
 pub fn divides(d: i64, x: i64) -> bool
     ensures { result ≡ divides d x }
 {
-    let divisor = magnitude(d);
-    let number = magnitude(x);
-    if divisor == 0 {
-        return number == 0;
-    }
-    number % divisor == 0
+    magnitude(x).is_multiple_of(magnitude(d))
 }
 
 // The greatest common divisor, by Euclid's algorithm; of 0 and 0 it is 0.
 pub fn gcd(a: u64, b: u64) -> u64
     ensures { result ≡ gcd_ℕ a b }
 {
-    let mut x = a;
-    let mut y = b;
+    let (mut x, mut y) = (a, b);
     while y != 0 {
-        let rest = x % y;
-        x = y;
-        y = rest;
+        (x, y) = (y, x % y);
     }
     x
 }
@@ -70,5 +59,12 @@ pub fn gcd(a: u64, b: u64) -> u64
 pub fn at(run: &[i64], place: usize) -> i64
     ensures { result ≡ at run.now place }
 {
-    if place < run.len() { run[place] } else { 0 }
+    run.get(place).copied().unwrap_or(0)
+}
+
+// Whether each number of a run lies in -bound..bound.
+pub fn all_within(bound: u64, run: &[i64]) -> bool
+    ensures { result ≡ all_below (length run.now) (λ i. within bound (at run.now i)) }
+{
+    run.iter().all(|x| within(bound, *x))
 }

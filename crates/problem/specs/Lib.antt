@@ -7,4 +7,6 @@
 pub mod Rows
 pub mod Points
 pub mod WellFormed
+pub mod Lent
+pub mod Refusal
 pub mod Occurrence

@@ -1,27 +1,115 @@
-// The tests behind refusals 1 and 3, of a problem whose counts and runs come from anywhere, and that of occurrence in a row.
+// A problem whose counts and runs come from anywhere, the refusals of every call, and the rows of a problem that is well formed.
 #![tactic(auto)]
 
-ghost use Rattle.std.specs.Prelude.{◌≡◌, ◌<◌, ◌≤◌};
+ghost use Rattle.std.specs.Prelude.{◌≡◌, ◌+◌, ◌<◌, ◌≤◌, IfOk};
+ghost use Rattle.integers.specs.Range.{within};
+ghost use Rattle.integers.specs.Below.{all_below};
+ghost use Rattle.integers.specs.Run.{at};
 ghost use Rattle.problem.specs.Rows.{side_of};
-ghost use Rattle.problem.specs.WellFormed.{shape, row_in_range, in_ranges, well_formed};
-ghost use Rattle.problem.specs.Occurrence.{counts};
+ghost use Rattle.problem.specs.WellFormed.{shape, row_in_range, in_ranges, well_formed, WellFormed, Ranges, million};
+ghost use Rattle.problem.specs.Occurrence.{counts, occurs};
+ghost use Rattle.problem.specs.Refusal.{number_of, refusal_in, problem_refusal};
+ghost use Rattle.problem.specs.Lent.{lent, Lent};
 
-// Whether the counts and the lengths of the two sides are as they should be: refusal 1 is given where they are not. A length
-// is computed only of counts that are known to be small.
-pub fn shape(n: usize, ma: usize, mb: usize, a: &[i64], b: &[i64]) -> bool
-    ensures { result ≡ shape n ma mb a.now b.now }
+// Why a call is refused: the first of these whose case it is.
+#[derive(Clone, Copy, Debug, PartialEq, Eq)]
+pub enum Refusal {
+    // A count or a side's length is not as it should be.
+    Shape,
+    // A run that is lent for results has not its length.
+    Runs,
+    // A number of a row is out of its range.
+    Ranges,
+    // The vector has not a numerator for each row, or its denominator is out of range.
+    Vector,
+    // A numerator is out of range.
+    Numerators,
+    // The denominator does not divide a column sum, or a weight times its row's modulus.
+    Sums,
+    // The denominator divides the sum of the constants.
+    Constants,
+    // A number of the search is above its bound.
+    TooLarge,
+    // A line is no frame.
+    Frame,
+}
+
+impl Refusal {
+    // The paper's number.
+    pub fn number(self) -> u8
+        ensures { result ≡ number_of self }
+    {
+        match self {
+            Refusal::Shape => 1,
+            Refusal::Runs => 2,
+            Refusal::Ranges => 3,
+            Refusal::Vector => 4,
+            Refusal::Numerators => 5,
+            Refusal::Sums => 6,
+            Refusal::Constants => 7,
+            Refusal::TooLarge => 8,
+            Refusal::Frame => 9,
+        }
+    }
+}
+
+// A problem as it is lent: n variables, the counts of A's and of B's rows, and the numbers of the rows of each side.
+#[derive(Clone, Copy)]
+pub struct Problem<'a> {
+    pub n: usize,
+    pub ma: usize,
+    pub mb: usize,
+    pub a: &'a [i64],
+    pub b: &'a [i64],
+}
+
+impl<'a> Problem<'a> {
+    // Whether the counts and the lengths of the two sides are as they should be. A length is computed only of counts that are known
+    // to be small.
+    pub fn has_shape(&self) -> bool
+        ensures { result ≡ lent shape self.now }
+    {
+        let Problem { n, ma, mb, a, b } = *self;
+        if n < 1 || 12 < n || 12 < ma || 12 < mb {
+            return false;
+        }
+        let m = ma + mb;
+        1 <= m && m <= 12 && a.len() == ma * (n + 2) && b.len() == mb * (n + 2)
+    }
+
+    // Whether the problem is well formed.
+    #[tactic(auto, unfolding(crate::specs::WellFormed::well_formed))]
+    pub fn is_well_formed(&self) -> bool
+        ensures { result ≡ lent well_formed self.now }
+    {
+        self.has_shape() && in_ranges(self.n, self.ma, self.a) && in_ranges(self.n, self.mb, self.b)
+    }
+
+    // The rows, if the problem is well formed and the runs that are lent for results `fit` it; else the first refusal.
+    #[tactic(auto, unfolding(crate::specs::Refusal::problem_refusal))]
+    pub fn rows(&self, fit: bool) -> Result<Rows<'a>, Refusal>
+        ensures rows { IfOk result (λ rows. rows.problem ≡ self.now) }
+        ensures refusal { refusal_in result ≡ lent problem_refusal self.now fit }
+    {
+        if !self.has_shape() {
+            return Err(Refusal::Shape);
+        }
+        if !fit {
+            return Err(Refusal::Runs);
+        }
+        if !self.is_well_formed() {
+            return Err(Refusal::Ranges);
+        }
+        Ok(Rows { problem: *self })
+    }
+}
+
+// Whether each row of a side is in its ranges.
+fn in_ranges(n: usize, m: usize, run: &[i64]) -> bool
+    requires { (n ≤ 12) × (m ≤ 12) }
+    ensures { result ≡ in_ranges n (side_of n m run.now) }
 {
-    if n < 1 || 12 < n || 12 < ma || 12 < mb {
-        return false;
-    }
-    let m = ma + mb;
-    if m < 1 || 12 < m {
-        return false;
-    }
-    if a.len() != ma * (n + 2) {
-        return false;
-    }
-    b.len() == mb * (n + 2)
+    (0..m).all(|i| row_in_range(n, m, run, i))
 }
 
 // Whether row i of a side is in its ranges.
@@ -30,49 +118,81 @@ fn row_in_range(n: usize, m: usize, run: &[i64], i: usize) -> bool
     ensures { result ≡ row_in_range n (side_of n m run.now) i }
 {
     let start = i * (n + 2);
-    let mut j: usize = 0;
-    while j < n {
-        if !integers::within(1000000, integers::at(run, start + j)) {
-            return false;
-        }
-        j += 1;
-    }
-    if !integers::within(1000000, integers::at(run, start + n)) {
-        return false;
-    }
     let modulus = integers::at(run, start + n + 1);
-    if !integers::within(1000000, modulus) {
-        return false;
-    }
-    !integers::is_negative(modulus)
+    all_within(run, start, n)
+        && integers::within(1000000, integers::at(run, start + n))
+        && integers::within(1000000, modulus)
+        && !integers::is_negative(modulus)
 }
 
-// Whether each row of a side is in its ranges.
-fn in_ranges(n: usize, m: usize, run: &[i64]) -> bool
-    requires { (n ≤ 12) × (m ≤ 12) }
-    ensures { result ≡ in_ranges n (side_of n m run.now) }
+// Whether some numbers of a run, from a place on, are in the range of coefficients.
+fn all_within(run: &[i64], start: usize, count: usize) -> bool
+    requires { (start ≤ 168) × (count ≤ 12) }
+    ensures { result ≡ all_below count (λ j. within million (at run.now (start + j))) }
 {
-    let mut i: usize = 0;
-    while i < m {
-        if !row_in_range(n, m, run, i) {
-            return false;
+    (0..count).all(|j| integers::within(1000000, integers::at(run, start + j)))
+}
+
+// The rows of a problem that is well formed.
+#[derive(Clone, Copy)]
+pub struct Rows<'a> {
+    pub problem: Problem<'a>,
+    ghost well_formed: { Lent WellFormed problem },
+}
+
+impl<'a> Rows<'a> {
+    // A's rows.
+    pub fn a(&self) -> Side<'a>
+        ensures n { result.n ≡ self.now.problem.n }
+        ensures m { result.m ≡ self.now.problem.ma }
+        ensures run { result.run.now ≡ self.now.problem.a.now }
+    {
+        Side {
+            n: self.problem.n,
+            m: self.problem.ma,
+            run: self.problem.a,
         }
-        i += 1;
     }
-    true
+
+    // B's rows.
+    pub fn b(&self) -> Side<'a>
+        ensures n { result.n ≡ self.now.problem.n }
+        ensures m { result.m ≡ self.now.problem.mb }
+        ensures run { result.run.now ≡ self.now.problem.b.now }
+    {
+        Side {
+            n: self.problem.n,
+            m: self.problem.mb,
+            run: self.problem.b,
+        }
+    }
 }
 
-// Whether the problem is well formed: refusal 3 is given where it has its shape and is not.
-pub fn well_formed(n: usize, ma: usize, mb: usize, a: &[i64], b: &[i64]) -> bool
-    ensures { result ≡ well_formed n ma mb a.now b.now }
-{
-    if !shape(n, ma, mb, a, b) {
-        return false;
+// One side of a problem that is well formed: m rows of n + 2 numbers, each in its range.
+#[derive(Clone, Copy)]
+pub struct Side<'a> {
+    pub n: usize,
+    pub m: usize,
+    pub run: &'a [i64],
+    ghost few_n: { n ≤ 12 },
+    ghost few_m: { m ≤ 12 },
+    ghost ranges: { Ranges n (side_of n m run.now) },
+}
+
+impl Side<'_> {
+    // Whether a variable occurs in the side: whether its coefficient counts in some row.
+    pub fn occurs(&self, j: usize) -> bool
+        requires { j < self.now.n }
+        ensures { result ≡ occurs (side_of self.now.n self.now.m self.now.run.now) j }
+    {
+        (0..self.m).any(|i| {
+            let start = i * (self.n + 2);
+            counts(
+                integers::at(self.run, start + self.n + 1),
+                integers::at(self.run, start + j),
+            )
+        })
     }
-    if !in_ranges(n, ma, a) {
-        return false;
-    }
-    in_ranges(n, mb, b)
 }
 
 // Whether a coefficient makes its variable occur in a row with this modulus: whether the modulus does not divide it.

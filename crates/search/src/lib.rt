@@ -146,13 +146,14 @@ pub fn table_after(
 fn refusal(n: usize, ma: usize, mb: usize, a: &[i64], b: &[i64], fit: bool) -> u8
     ensures { result ≡ refusal_of n ma mb a.now b.now fit }
 {
-    if !problem::shape(n, ma, mb, a, b) {
+    let problem = problem::Problem { n, ma, mb, a, b };
+    if !problem.has_shape() {
         return 1;
     }
     if !fit {
         return 2;
     }
-    if !problem::well_formed(n, ma, mb, a, b) {
+    if !problem.is_well_formed() {
         return 3;
     }
     0

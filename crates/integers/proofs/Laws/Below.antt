@@ -6,6 +6,8 @@
 --               all_false      false at a place: false       all_same     the same tests: the same answer
 --               all_place      false: a place at which it is false
 --               all_split      at a + b places: at the first a and at the b from place a on
+--     Chains    all_list       `all` of a list: at its places
+--               all_range      `all` of 0..n     any_range      `any` of 0..n
 --     Any       any_each       false: false at each place    any_false    the other way round
 --               any_true       true at a place: true         any_place    true: a place at which it is true
 --     Loops     a loop that leaves at the first place where a test fails, or holds, and the place that it has reached
@@ -20,6 +22,9 @@ use native.Mathlib.Nat.{le_antisymm}
 use native.Mathlib.Numerals.{add-one}
 use native.Mathlib.Omega.{arith}
 use native.Mathlib.Decide.{ℕ_discrete}
+use mathlib.Core.List.{List, [], ◌∷◌}
+use lib.ListN.{length, get_or}
+use Rattle.std.specs.List.{list_all, list_any, range_with_len}
 use Rattle.integers.specs.Below.{all_below, any_below}
 
 -- Turns ----------------------------------------------------------------------------------------------------------------
@@ -159,3 +164,52 @@ module _ (n : ℕ) (t : ℕ → Bool) (i : ℕ) where
 
   pub any_end : i ≤ n → n ≤ i → any_below i t ≡ false → false ≡ any_below n t
   any_end h k e = sym e ∙ ap (λ (m : ℕ). any_below m t) (le_antisymm h k)
+
+-- Chains ---------------------------------------------------------------------------------------------------------------
+
+-- one place more in front
+all_front : (n : ℕ) (t : ℕ → Bool) → all_below (suc n) t ≡ t 0 && all_below n (λ i. t (suc i))
+unfolding all_below
+all_front zero t = elim (t 0) as (λ v. true && v ≡ v && true) [ true ↦ refl | false ↦ refl ]
+all_front (suc n) t = ap (λ (a : Bool). a && t (suc n)) (all_front n t) ∙ and_assoc (t 0) (all_below n (λ i. t (suc i))) (t (suc n))
+
+or_assoc : (a b c : Bool) → (a || b) || c ≡ a || (b || c)
+or_assoc true b c = refl
+or_assoc false b c = refl
+
+any_front : (n : ℕ) (t : ℕ → Bool) → any_below (suc n) t ≡ t 0 || any_below n (λ i. t (suc i))
+unfolding any_below
+any_front zero t = elim (t 0) as (λ v. false || v ≡ v || false) [ true ↦ refl | false ↦ refl ]
+any_front (suc n) t = ap (λ (a : Bool). a || t (suc n)) (any_front n t) ∙ or_assoc (t 0) (any_below n (λ i. t (suc i))) (t (suc n))
+
+pub all_list : {X : Type 0} (t : X → Bool) (xs : List X) (d : X) → list_all t xs ≡ all_below (length xs) (λ i. t (get_or xs i d))
+unfolding all_below
+all_list t [] d = refl
+all_list t (x ∷ xs) d = ap (λ (a : Bool). t x && a) (all_list t xs d) ∙ sym (all_front (length xs) (λ i. t (get_or (x ∷ xs) i d)))
+
+all_from : (a n : ℕ) (t : ℕ → Bool) → list_all t (range_with_len a n) ≡ all_below n (λ i. t (a + i))
+unfolding all_below
+all_from a zero t = refl
+all_from a (suc n) t =
+    ap (λ (u : Bool). t a && u) (all_from (a + 1) n t ∙ all_same n (λ i. t (a + 1 + i)) (λ i. t (a + suc i)) (λ i l. ap t (omega arith)))
+    ∙ ap (λ (k : ℕ). t k && all_below n (λ i. t (a + suc i))) (omega arith)
+    ∙ sym (all_front n (λ i. t (a + i)))
+
+pub all_range : (n : ℕ) (t : ℕ → Bool) → list_all t (range_with_len 0 n) ≡ all_below n t
+all_range n t = all_from 0 n t ∙ all_same n (λ i. t (0 + i)) t (λ i l. ap t (omega arith))
+
+any_same : (n : ℕ) (t u : ℕ → Bool) → ((i : ℕ) → t i ≡ u i) → any_below n t ≡ any_below n u
+unfolding any_below
+any_same zero t u h = refl
+any_same (suc n) t u h = ap₂ (λ (a b : Bool). a || b) (any_same n t u h) (h n)
+
+any_from : (a n : ℕ) (t : ℕ → Bool) → list_any t (range_with_len a n) ≡ any_below n (λ i. t (a + i))
+unfolding any_below
+any_from a zero t = refl
+any_from a (suc n) t =
+    ap (λ (u : Bool). t a || u) (any_from (a + 1) n t ∙ any_same n (λ i. t (a + 1 + i)) (λ i. t (a + suc i)) (λ i. ap t (omega arith)))
+    ∙ ap (λ (k : ℕ). t k || any_below n (λ i. t (a + suc i))) (omega arith)
+    ∙ sym (any_front n (λ i. t (a + i)))
+
+pub any_range : (n : ℕ) (t : ℕ → Bool) → list_any t (range_with_len 0 n) ≡ any_below n t
+any_range n t = any_from 0 n t ∙ any_same n (λ i. t (0 + i)) t (λ i. ap t (omega arith))

@@ -1,27 +1,13 @@
-use mathlib.Core.Path.{sym, ◌∙◌}
-use mathlib.Core.Bool.{Bool}
-use Prim.Native.Nat.{ℕ}
-use native.Mathlib.Omega.{arith}
-use Rattle.integers.proofs.Laws.Below.{all_none, all_onward, all_stop}
+use Rattle.std.proofs.Common.{refl, ◌∙◌, arith, rules}
+use Rattle.std.proofs.lemmas.Iterator.{YieldsList-from_range}
+use Rattle.std.proofs.lemmas.Iterator.Search.{all_from_yields_List}
+use Rattle.integers.proofs.Laws.Below.{all_range}
 use Rattle.problem.specs.Rows.{side_of}
 use Rattle.problem.specs.WellFormed.{row_in_range}
 use Rattle.problem.proofs.in_ranges.Goals as goal
-use Rattle.problem.proofs.in_ranges.Goals.{Start}
 
-abbrev test : Start → ℕ → Bool
-test s = row_in_range s.args.n (side_of s.args.n s.args.m s.args.run.now)
-
-pub loop-i-init : goal.loop-i-init
-loop-i-init c = (omega arith, all_none (test c))
-
-pub returns-then-not-row_in_range : goal.returns-then-not-row_in_range
-returns-then-not-row_in_range c =
-    let l = c.before.before.before in
-    let e = sym c.before.row_in_range.ensures ∙ c.if-not-row_in_range.true in
-    all_stop l.before.args.m (test l.before) l.loop-i.i c.before.before.loop-i-test.true e
-
-pub loop-i-preserved : goal.loop-i-preserved
-loop-i-preserved c =
-    let l = c.before.before.before in
-    let e = sym c.before.row_in_range.ensures ∙ c.if-not-row_in_range.false in
-    (omega arith, all_onward l.before.args.m (test l.before) l.loop-i.i l.loop-i.invariant.1 e)
+pub returns : goal.returns
+returns c =
+    let a = c.args in
+    let test = row_in_range a.n (side_of a.n a.m a.run.now) in
+    all_from_yields_List test _ _ _ c.all.ensures.ran (YieldsList-from_range 0 a.m a.m refl (omega arith)) (λ x b q k. search rules) ∙ all_range a.m test
