@@ -1,13 +1,13 @@
 // A problem whose counts and runs come from anywhere, the refusals of every call, and the rows of a problem that is well formed.
 #![tactic(auto)]
 
-ghost use Rattle.std.specs.Prelude.{◌≡◌, ◌+◌, ◌<◌, ◌≤◌, IfOk};
+ghost use Rattle.std.specs.Prelude.{◌≡◌, ◌+◌, ◌*◌, ◌<◌, ◌≤◌, nat_abs, IfOk};
 ghost use Rattle.integers.specs.Range.{within};
 ghost use Rattle.integers.specs.Below.{all_below};
 ghost use Rattle.integers.specs.Run.{at};
-ghost use Rattle.problem.specs.Rows.{side_of};
+ghost use Rattle.problem.specs.Rows.{side_of, number_in};
 ghost use Rattle.problem.specs.WellFormed.{shape, row_in_range, in_ranges, well_formed, WellFormed, Ranges, million};
-ghost use Rattle.problem.specs.Occurrence.{counts, occurs};
+ghost use Rattle.problem.specs.Occurrence.{counts};
 ghost use Rattle.problem.specs.Refusal.{number_of, refusal_in, problem_refusal};
 ghost use Rattle.problem.specs.Lent.{lent, Lent};
 
@@ -180,18 +180,17 @@ pub struct Side<'a> {
 }
 
 impl Side<'_> {
-    // Whether a variable occurs in the side: whether its coefficient counts in some row.
-    pub fn occurs(&self, j: usize) -> bool
-        requires { j < self.now.n }
-        ensures { result ≡ occurs (side_of self.now.n self.now.m self.now.run.now) j }
+    // The number in a column of a row: a coefficient below n, the constant at n, the modulus at n + 1; 0 where there is none.
+    pub fn number(&self, row: usize, column: usize) -> i64
+        ensures value { result ≡ number_in self.now.n self.now.m self.now.run.now row column }
+        ensures inside { row < self.now.m → column < self.now.n + 2 → result ≡ at self.now.run.now (row * (self.now.n + 2) + column) }
+        ensures bound { nat_abs result ≤ million }
     {
-        (0..self.m).any(|i| {
-            let start = i * (self.n + 2);
-            counts(
-                integers::at(self.run, start + self.n + 1),
-                integers::at(self.run, start + j),
-            )
-        })
+        if row < self.m && column < self.n + 2 {
+            integers::at(self.run, row * (self.n + 2) + column)
+        } else {
+            0
+        }
     }
 }
 
