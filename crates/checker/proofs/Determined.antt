@@ -6,10 +6,12 @@ use Prim.Native.Nat.{ℕ}
 use lib.IntN.{ℤ}
 use Rattle.integers.proofs.Determined.{determined}
 use Rattle.checker.specs.Answer.{judge_answer, judge_run}
-use Rattle.checker.specs.declared.Answer.{Answer}
+use Rattle.std.specs.Prelude.{Result}
+use Rattle.problem.specs.declared.Refusal.{Refusal}
+use Rattle.checker.specs.declared.Fact.{Fact}
 
 module _ (n ma mb : ℕ) (a b : List ℤ) (q : ℤ) (p entry : List ℤ) where
-  pub judge_determined : (r s : Answer) → r ≡ judge_answer n ma mb a b q p entry → s ≡ judge_answer n ma mb a b q p entry → r ≡ s
+  pub judge_determined : (r s : Result Fact Refusal) → r ≡ judge_answer n ma mb a b q p entry → s ≡ judge_answer n ma mb a b q p entry → r ≡ s
   judge_determined r s = determined
 
   pub judge_run_determined : (exit other : List ℤ) → exit ≡ judge_run n ma mb a b q p entry → other ≡ judge_run n ma mb a b q p entry → exit ≡ other

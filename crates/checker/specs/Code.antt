@@ -1,26 +1,21 @@
 -- What the private functions ask for and compute.
 --
 --     numbers, weights       a column of a side; the numerators from a place on
---     Weighted, Summable     a number and its weight, or a column and its weights, small enough to be multiplied and summed
 --     Weighable              the rows and the vector of a problem, in their ranges
 --     shared_sum, local_sum  A's column sum at a shared, and at an A-local variable, else 0
 --     fact_of, Small         the fact that a run, a constant and a modulus make; every number of a fact is at most C
 --     short_form             the normal form with fewer cases, as the code computes it (short_same of proofs/Laws/Short.antt)
---     changed, Allowed       a number after a change, and when the change is allowed
-use Rattle.std.specs.Prelude.{List, Bool, true, false, cond, ℕ, ◌+◌, ◌*◌, ◌<◌, ◌≤◌, eqb, ℤ, pos, nat_abs, neg_ℤ}
-use Rattle.std.specs.Int.Signed.{quot_z}
+use Rattle.std.specs.Prelude.{List, Bool, true, false, cond, ℕ, ◌+◌, ◌*◌, ◌<◌, ◌≤◌, eqb, ℤ, pos, nat_abs}
 use Rattle.integers.specs.Range.{is_zero, is_negative}
 use Rattle.integers.specs.Divisibility.{divides}
 use Rattle.integers.specs.Gcd.{gcd_from}
 use Rattle.integers.specs.Run.{at}
 use Rattle.problem.specs.Rows.{side_of}
-use Rattle.problem.specs.WellFormed.{million, WellFormed}
+use Rattle.problem.specs.WellFormed.{WellFormed}
 use Rattle.problem.specs.Occurrence.{occurs, shared, local_a}
 use Rattle.checker.specs.Refutation.{column_sum, numerator, Numerators}
 use Rattle.checker.specs.Fact.{Fact}
-use Rattle.checker.specs.NormalForm.{false_fact, divided, first_nonzero, sign_by, residue, unit_by}
-use Rattle.checker.specs.declared.Change.{Change}
-use Rattle.checker.specs.declared.Change.TheVariants.{Zero, Divide, Negate, Residue}
+use Rattle.checker.specs.NormalForm.{false_fact, divided, first_nonzero, sign_by, unit_by}
 
 -- Sums -----------------------------------------------------------------------------------------------------------------
 
@@ -31,18 +26,6 @@ numbers n run column i = at run (i * (n + 2) + column)
 -- A's numerators begin at place 0, B's at mA
 abbrev pub weights : List ℤ → ℕ → ℕ → ℤ
 weights p from i = at p (i + from)
-
-pub record Weighted (n : ℕ) (run p : List ℤ) (from column i : ℕ) : Type 0 where
-  pub few_n : n ≤ 12
-  pub row_in : i < 12
-  pub from_in : from ≤ 12
-  pub column_in : column ≤ 13
-  pub number_in : nat_abs (numbers n run column i) ≤ million
-  pub weight_in : nat_abs (weights p from i) ≤ million
-
-pub record Summable (n m : ℕ) (run p : List ℤ) (from column : ℕ) : Type 0 where
-  pub few_m : m ≤ 12
-  pub row : (i : ℕ) → i < m → Weighted n run p from column i
 
 pub record Weighable (n ma mb : ℕ) (a b p : List ℤ) : Type 0 where
   pub well-formed : WellFormed n ma mb a b
@@ -91,17 +74,3 @@ common_factor n f = gcd_from f.modulus n f.coef
 -- 0 divides only 0: where the gcd is 0, the constant decides between FALSE and TRUE, which is the fact divided by 0
 unfoldable pub short_form : ℕ → Fact → Fact
 short_form n f = short_by (divides (common_factor n f) f.const) n (divided (common_factor n f) f)
-
--- Changes --------------------------------------------------------------------------------------------------------------
-
-abbrev pub changed : Change → ℤ → ℤ
-changed Zero x = pos 0
-changed (Divide g) x = quot_z x g
-changed Negate x = neg_ℤ x
-changed (Residue m) x = residue m x
-
-abbrev pub Allowed : Change → Type 0
-Allowed Zero = Unit {0}
-Allowed (Divide g) = (0 < nat_abs g) × (nat_abs g ≤ largest)
-Allowed Negate = Unit {0}
-Allowed (Residue m) = (0 < nat_abs m) × (nat_abs m ≤ largest)

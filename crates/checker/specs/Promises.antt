@@ -10,7 +10,7 @@
 --     Demand                demand 2 of one call of `judge` whose vector is accepted
 --     Completes             integers at the A-local variables, and one for each row, that make A's weighted row true; in_a and in_b say which
 --                           variables occur in A and in B
-use Rattle.std.specs.Prelude.{◌≡◌, List, Bool, true, false, ℕ, ◌+◌, ◌<◌, ℤ, pos, ◌+ℤ◌, ◌*ℤ◌, ◌≤ℤ◌, ◌<ℤ◌}
+use Rattle.std.specs.Prelude.{◌≡◌, List, Bool, true, false, Ok, ℕ, ◌+◌, ◌<◌, ℤ, pos, ◌+ℤ◌, ◌*ℤ◌, ◌≤ℤ◌, ◌<ℤ◌}
 use Rattle.integers.specs.Divisibility.{◌∣ℤ◌}
 use Rattle.integers.specs.Gcd.{gcd_from}
 use Rattle.integers.specs.Sum.{dot}
@@ -22,8 +22,7 @@ use Rattle.problem.specs.Occurrence.{occurs, shared, local_a}
 use Rattle.checker.specs.Refutation.{column_sum, constant_sum, Refutes, numerator, Vector, Numerators}
 use Rattle.checker.specs.Fact.{Fact, Holds}
 use Rattle.checker.specs.NormalForm.{first_nonzero}
-use Rattle.checker.specs.Answer.{interpolant_for, judge_answer, judge_run}
-use Rattle.checker.specs.declared.Answer.TheVariants.{Fact as Stated}
+use Rattle.checker.specs.Answer.{interpolant_for, stated, judge_answer, judge_run}
 
 pub record DividesSums (n : ℕ) (R : Rows) (q : ℤ) (p : ℕ → ℤ) : Type 0 where
   pub columns : (j : ℕ) → j < n → q ∣ℤ column_sum R p j
@@ -84,7 +83,7 @@ module _ (n ma mb : ℕ) (a b : List ℤ) (q : ℤ) (p entry : List ℤ) where
     pub accepted : Accepted n ma mb a b q p
     pub no_point : (X : ℕ → ℤ) → Meets n A X → Meets n B X → ⊥
     -- the call answers the interpolant's constant and modulus, and its run then holds the coefficients
-    pub answered : judge_answer n ma mb a b q p entry ≡ Stated fact.const fact.modulus
+    pub answered : judge_answer n ma mb a b q p entry ≡ Ok (stated fact)
     pub written : judge_run n ma mb a b q p entry ≡ tabulate n fact.coef
     -- in normal form
     pub normal : IsNormal n fact

@@ -7,19 +7,19 @@
 --     problem_refusal  the refusals 1 to 3 of a problem; `fit` says that the runs that are lent for results have their lengths
 use Rattle.std.specs.Prelude.{List, Bool, true, false, ℕ, ℤ, Option, Some, None, Result, Ok, Err}
 use Rattle.problem.specs.declared.Refusal.{Refusal}
-use Rattle.problem.specs.declared.Refusal.TheVariants.{Shape, Runs, Ranges, Vector, Numerators, Sums, Constants, TooLarge, Frame}
+use Rattle.problem.specs.declared.Refusal.TheVariants.{WrongShape, WrongRun, RowOutOfRange, WrongVector, NumeratorOutOfRange, SumNotDivided, ConstantsDivided, TooLarge, NoFrame}
 use Rattle.problem.specs.WellFormed.{shape, well_formed}
 
 abbrev pub number_of : Refusal → ℕ
-number_of Shape = 1
-number_of Runs = 2
-number_of Ranges = 3
-number_of Vector = 4
-number_of Numerators = 5
-number_of Sums = 6
-number_of Constants = 7
+number_of WrongShape = 1
+number_of WrongRun = 2
+number_of RowOutOfRange = 3
+number_of WrongVector = 4
+number_of NumeratorOutOfRange = 5
+number_of SumNotDivided = 6
+number_of ConstantsDivided = 7
 number_of TooLarge = 8
-number_of Frame = 9
+number_of NoFrame = 9
 
 abbrev pub number_or_none : Option Refusal → ℕ
 number_or_none None = 0
@@ -35,4 +35,4 @@ unless false k rest = Some k
 
 -- "1: n, mA, mB, m or a side's length is not as above. 2: a result run is not exactly its length. 3: a row's number is out of its range."
 unfoldable pub problem_refusal : ℕ → ℕ → ℕ → List ℤ → List ℤ → Bool → Option Refusal
-problem_refusal n ma mb a b fit = unless (shape n ma mb a b) Shape (unless fit Runs (unless (well_formed n ma mb a b) Ranges None))
+problem_refusal n ma mb a b fit = unless (shape n ma mb a b) WrongShape (unless fit WrongRun (unless (well_formed n ma mb a b) RowOutOfRange None))

@@ -15,23 +15,23 @@ ghost use Rattle.problem.specs.Lent.{lent, Lent};
 #[derive(Clone, Copy, Debug, PartialEq, Eq)]
 pub enum Refusal {
     // A count or a side's length is not as it should be.
-    Shape,
+    WrongShape,
     // A run that is lent for results has not its length.
-    Runs,
+    WrongRun,
     // A number of a row is out of its range.
-    Ranges,
+    RowOutOfRange,
     // The vector has not a numerator for each row, or its denominator is out of range.
-    Vector,
+    WrongVector,
     // A numerator is out of range.
-    Numerators,
+    NumeratorOutOfRange,
     // The denominator does not divide a column sum, or a weight times its row's modulus.
-    Sums,
+    SumNotDivided,
     // The denominator divides the sum of the constants.
-    Constants,
+    ConstantsDivided,
     // A number of the search is above its bound.
     TooLarge,
     // A line is no frame.
-    Frame,
+    NoFrame,
 }
 
 impl Refusal {
@@ -40,15 +40,15 @@ impl Refusal {
         ensures { result ≡ number_of self }
     {
         match self {
-            Refusal::Shape => 1,
-            Refusal::Runs => 2,
-            Refusal::Ranges => 3,
-            Refusal::Vector => 4,
-            Refusal::Numerators => 5,
-            Refusal::Sums => 6,
-            Refusal::Constants => 7,
+            Refusal::WrongShape => 1,
+            Refusal::WrongRun => 2,
+            Refusal::RowOutOfRange => 3,
+            Refusal::WrongVector => 4,
+            Refusal::NumeratorOutOfRange => 5,
+            Refusal::SumNotDivided => 6,
+            Refusal::ConstantsDivided => 7,
             Refusal::TooLarge => 8,
-            Refusal::Frame => 9,
+            Refusal::NoFrame => 9,
         }
     }
 }
@@ -92,13 +92,13 @@ impl<'a> Problem<'a> {
         ensures refusal { refusal_in result ≡ lent problem_refusal self.now fit }
     {
         if !self.has_shape() {
-            return Err(Refusal::Shape);
+            return Err(Refusal::WrongShape);
         }
         if !fit {
-            return Err(Refusal::Runs);
+            return Err(Refusal::WrongRun);
         }
         if !self.is_well_formed() {
-            return Err(Refusal::Ranges);
+            return Err(Refusal::RowOutOfRange);
         }
         Ok(Rows { problem: *self })
     }

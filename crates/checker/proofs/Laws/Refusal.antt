@@ -10,25 +10,30 @@
 --     refusal_none     refusal 0: Accepted, and the run is n long
 --
 -- Assumes nothing.
-use mathlib.Core.Path.{◌≡◌, refl, ◌∙◌, ap}
+use mathlib.Core.Path.{◌≡◌, refl, sym, ◌∙◌, ap, ap₂}
 use mathlib.Core.List.{List}
 use mathlib.Core.Bool.{Bool, true, false, not}
 use Prim.Native.Nat.{ℕ, ◌+◌, ◌≤◌}
 use native.Mathlib.Omega.{arith}
+use lib.Dec.{eqb}
 use lib.ListN.{length}
 use lib.IntN.{ℤ, pos, nat_abs, ◌*ℤ◌}
 use Rattle.integers.specs.Range.{within}
 use Rattle.integers.specs.Divisibility.{◌∣ℤ◌, divides}
 use Rattle.integers.proofs.Laws.Decide.{Decides, decides_no, decides_false, decides_stable, by_eq, by_lt-ℤ, by_within, by_divides, by_and, by_not, by_all, by_same}
 use Rattle.problem.specs.Rows.{Rows, rows_of}
-use Rattle.problem.specs.WellFormed.{million, WellFormed}
+use Rattle.problem.specs.WellFormed.{million, WellFormed, shape, well_formed}
 use Rattle.problem.proofs.Laws.WellFormed.{by_shape, by_well_formed}
-use Rattle.checker.specs.Refutation.{column_sum, constant_sum, numerator, Vector, Numerators, is_vector, are_numerators, divides_sums, unless, sums_refusal, vector_refusal, refusal}
+use Rattle.std.specs.Prelude.{Option, Some, None}
+use Rattle.problem.specs.Refusal.{unless, number_or_none, problem_refusal}
+use Rattle.problem.specs.declared.Refusal.{Refusal}
+use Rattle.problem.specs.declared.Refusal.TheVariants.{WrongVector, NumeratorOutOfRange, SumNotDivided, ConstantsDivided}
+use Rattle.checker.specs.Refutation.{column_sum, constant_sum, numerator, Vector, Numerators, is_vector, are_numerators, divides_sums, sums_refusal, vector_refusal, refusal, refusal_number}
 use Rattle.checker.specs.Promises.{DividesSums, Accepted, Says, says_0, says_1, says_2, says_3, says_4, says_5, says_6, says_7}
 
 -- Tests ----------------------------------------------------------------------------------------------------------------
 
-by_vector : (m : ℕ) (q : ℤ) (p : List ℤ) → Decides (is_vector m q p) (Vector m q p)
+pub by_vector : (m : ℕ) (q : ℤ) (p : List ℤ) → Decides (is_vector m q p) (Vector m q p)
 by_vector m q p = by_same
     (λ h. record { long = h.0; q_low = h.1.0; q_high = h.1.1 })
     (λ v. (v.long, (v.q_low, v.q_high)))
@@ -38,7 +43,7 @@ pub by_numerators : (m : ℕ) (p : ℕ → ℤ) → Decides (are_numerators m p)
 by_numerators m p = by_same (λ h. record { in_range = h }) (λ s. s.in_range)
     (by_all m (λ i. within million (p i)) (λ i. nat_abs (p i) ≤ million) (λ i. by_within million (p i)))
 
-by_sums : (n : ℕ) (R : Rows) (q : ℤ) (p : ℕ → ℤ) → Decides (divides_sums n R q p) (DividesSums n R q p)
+pub by_sums : (n : ℕ) (R : Rows) (q : ℤ) (p : ℕ → ℤ) → Decides (divides_sums n R q p) (DividesSums n R q p)
 by_sums n R q p = by_same
     (λ h. record { columns = h.0; moduli = h.1 })
     (λ d. (d.columns, d.moduli))
@@ -50,11 +55,22 @@ by_constants R q p = by_not (by_divides q (constant_sum R p))
 
 -- One test of several --------------------------------------------------------------------------------------------------
 
-pass : {t : Bool} {P : Type 0} (k rest : ℕ) → Decides t P → P → unless t k rest ≡ rest
+pass : {t : Bool} {P : Type 0} (k : Refusal) (rest : Option Refusal) → Decides t P → P → unless t k rest ≡ rest
 pass k rest d h = ap (λ (t : Bool). unless t k rest) (d.is h)
 
-fail : {t : Bool} {P : Type 0} (k rest : ℕ) → Decides t P → (P → ⊥) → unless t k rest ≡ k
+fail : {t : Bool} {P : Type 0} (k : Refusal) (rest : Option Refusal) → Decides t P → (P → ⊥) → unless t k rest ≡ Some k
 fail k rest d h = ap (λ (t : Bool). unless t k rest) (decides_false d h)
+
+-- the first refusal, if there is one
+abbrev pub first_of : Option Refusal → Option Refusal → Option Refusal
+first_of None later = later
+first_of (Some k) later = Some k
+
+later : (s t u : Bool) (i j k : Refusal) (rest : Option Refusal) → unless s i (unless t j (unless u k rest)) ≡ first_of (unless s i (unless t j (unless u k None))) rest
+later false t u i j k rest = refl
+later true false u i j k rest = refl
+later true true false i j k rest = refl
+later true true true i j k rest = refl
 
 -- Cases ----------------------------------------------------------------------------------------------------------------
 
@@ -62,11 +78,14 @@ module _ (n ma mb : ℕ) (a b : List ℤ) (q : ℤ) (p : List ℤ) (long : ℕ) 
   abbrev R : Rows
   R = rows_of n ma mb a b
 
-  test : (t : Bool) (k rest : ℕ) {H : Type 0} → Decides t H → ((H → ⊥) → Says n ma mb a b q p long k) → (H → Says n ma mb a b q p long rest) → Says n ma mb a b q p long (unless t k rest)
+  abbrev Case : Option Refusal → Type 0
+  Case r = Says n ma mb a b q p long (number_or_none r)
+
+  test : (t : Bool) (k : Refusal) (rest : Option Refusal) {H : Type 0} → Decides t H → ((H → ⊥) → Case (Some k)) → (H → Case rest) → Case (unless t k rest)
   test true k rest d refused passed = passed (d.yes refl)
   test false k rest d refused passed = refused (decides_no d refl)
 
-  pub refusal_says : Says n ma mb a b q p long (refusal n ma mb a b q p long)
+  pub refusal_says : Case (refusal n ma mb a b q p long)
   unfolding refusal vector_refusal sums_refusal
   refusal_says =
       test _ _ _ (by_shape n ma mb a b) says_1 (λ s.
@@ -87,18 +106,18 @@ module _ (n ma mb : ℕ) (a b : List ℤ) (q : ℤ) (p : List ℤ) (long : ℕ) 
   unfolding vector_refusal
   at_sums w l v u = at_vector w l ∙ pass _ _ (by_vector (ma + mb) q p) v ∙ pass _ _ (by_numerators (ma + mb) (numerator p)) u
 
-  pub refusal_is : {k : ℕ} → Says n ma mb a b q p long k → refusal n ma mb a b q p long ≡ k
+  pub refusal_is : {k : ℕ} → Says n ma mb a b q p long k → refusal_number n ma mb a b q p long ≡ k
   unfolding refusal vector_refusal sums_refusal
-  refusal_is (says_1 h) = fail _ _ (by_shape n ma mb a b) h
-  refusal_is (says_2 s h) = pass _ _ (by_shape n ma mb a b) s ∙ fail _ _ (by_eq long n) h
-  refusal_is (says_3 s l h) = pass _ _ (by_shape n ma mb a b) s ∙ pass _ _ (by_eq long n) l ∙ fail _ _ (by_well_formed n ma mb a b) h
-  refusal_is (says_4 w l h) = at_vector w l ∙ fail _ _ (by_vector (ma + mb) q p) h
-  refusal_is (says_5 w l v h) = at_vector w l ∙ pass _ _ (by_vector (ma + mb) q p) v ∙ fail _ _ (by_numerators (ma + mb) (numerator p)) h
-  refusal_is (says_6 w l v u h) = at_sums w l v u ∙ fail _ _ (by_sums n R q (numerator p)) h
-  refusal_is (says_7 w l v u d h) = at_sums w l v u ∙ pass _ _ (by_sums n R q (numerator p)) d ∙ fail _ _ (by_constants R q (numerator p)) (λ f. f h)
-  refusal_is (says_0 c l) = at_sums c.well-formed l c.vector c.numerators
+  refusal_is (says_1 h) = ap number_or_none (fail _ _ (by_shape n ma mb a b) h)
+  refusal_is (says_2 s h) = ap number_or_none (pass _ _ (by_shape n ma mb a b) s ∙ fail _ _ (by_eq long n) h)
+  refusal_is (says_3 s l h) = ap number_or_none (pass _ _ (by_shape n ma mb a b) s ∙ pass _ _ (by_eq long n) l ∙ fail _ _ (by_well_formed n ma mb a b) h)
+  refusal_is (says_4 w l h) = ap number_or_none (at_vector w l ∙ fail _ _ (by_vector (ma + mb) q p) h)
+  refusal_is (says_5 w l v h) = ap number_or_none (at_vector w l ∙ pass _ _ (by_vector (ma + mb) q p) v ∙ fail _ _ (by_numerators (ma + mb) (numerator p)) h)
+  refusal_is (says_6 w l v u h) = ap number_or_none (at_sums w l v u ∙ fail _ _ (by_sums n R q (numerator p)) h)
+  refusal_is (says_7 w l v u d h) = ap number_or_none (at_sums w l v u ∙ pass _ _ (by_sums n R q (numerator p)) d ∙ fail _ _ (by_constants R q (numerator p)) (λ f. f h))
+  refusal_is (says_0 c l) = ap number_or_none (at_sums c.well-formed l c.vector c.numerators
       ∙ pass _ _ (by_sums n R q (numerator p)) (record { columns = c.refutes.columns; moduli = c.refutes.moduli })
-      ∙ pass _ _ (by_constants R q (numerator p)) c.refutes.constants
+      ∙ pass _ _ (by_constants R q (numerator p)) c.refutes.constants)
 
   says_none : {k : ℕ} → Says n ma mb a b q p long k → k ≡ 0 → Accepted n ma mb a b q p × (long ≡ n)
   says_none (says_1 h) e = absurd (omega arith)
@@ -110,5 +129,17 @@ module _ (n ma mb : ℕ) (a b : List ℤ) (q : ℤ) (p : List ℤ) (long : ℕ) 
   says_none (says_7 w l v u d h) e = absurd (omega arith)
   says_none (says_0 c l) e = (c, l)
 
-  pub refusal_none : refusal n ma mb a b q p long ≡ 0 → Accepted n ma mb a b q p × (long ≡ n)
+  pub refusal_none : refusal_number n ma mb a b q p long ≡ 0 → Accepted n ma mb a b q p × (long ≡ n)
   refusal_none = says_none refusal_says
+
+  -- as the code has it: the refusals of the problem come first, then those of the vector, test by test
+  pub after_problem : (r : Option Refusal) → r ≡ problem_refusal n ma mb a b (eqb long n) → first_of r (vector_refusal n R q p) ≡ refusal n ma mb a b q p long
+  unfolding refusal problem_refusal
+  after_problem r e = ap (λ (x : Option Refusal). first_of x (vector_refusal n R q p)) e ∙ sym (later (shape n ma mb a b) (eqb long n) (well_formed n ma mb a b) _ _ _ (vector_refusal n R q p))
+
+  pub by_tests : (s t u v : Bool) → s ≡ is_vector (ma + mb) q p → t ≡ are_numerators (ma + mb) (numerator p) → u ≡ divides_sums n R q (numerator p) → v ≡ divides q (constant_sum R (numerator p)) →
+      unless s WrongVector (unless t NumeratorOutOfRange (unless u SumNotDivided (unless (not v) ConstantsDivided None))) ≡ vector_refusal n R q p
+  unfolding vector_refusal sums_refusal
+  by_tests s t u v e f g h =
+      ap₂ (λ s t. unless s WrongVector (unless t NumeratorOutOfRange (unless u SumNotDivided (unless (not v) ConstantsDivided None)))) e f
+      ∙ ap₂ (λ u v. unless (is_vector (ma + mb) q p) WrongVector (unless (are_numerators (ma + mb) (numerator p)) NumeratorOutOfRange (unless u SumNotDivided (unless (not v) ConstantsDivided None)))) g h

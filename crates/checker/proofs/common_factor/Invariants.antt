@@ -1,14 +1,8 @@
--- `checker::common_factor` meets its contract: the gcd so far is that of the modulus and of the coefficients passed.
-use mathlib.Core.Path.{◌≡◌}
-use Prim.Native.Nat.{◌-◌, ◌≤◌}
-use lib.ListN.{length}
-use lib.IntN.{pos}
+-- The gcd is that of the modulus and of the coefficients passed.
+use Rattle.std.proofs.Common.{◌≡◌, pos}
 use Rattle.integers.specs.Gcd.{gcd_from}
 use Rattle.integers.specs.Run.{at}
 use Rattle.checker.proofs.common_factor.Given as goal
 
-abbrev pub invariant-loop-j : goal.invariant-loop-j
-invariant-loop-j l = (l.j ≤ length l.coeffs) × (pos l.common ≡ gcd_from l.modulus l.j (at l.coeffs))
-
-abbrev pub decreases-loop-j : goal.decreases-loop-j
-decreases-loop-j l = length l.coeffs - l.j
+abbrev pub invariant-loop-c : goal.invariant-loop-c
+invariant-loop-c l = pos l.common ≡ gcd_from (pos l.modulus) l.c-index (at l.coeffs)

@@ -1,76 +1,60 @@
-use mathlib.Core.Path.{◌≡◌, sym, ◌∙◌, ap, ap₂}
+use Rattle.std.proofs.Common.{◌≡◌, ℕ, ◌<◌, sym, ◌∙◌, ap, ap₂, rules, arith, length, List, ℤ, pos, nat_abs, eqb}
 use mathlib.Core.Bool.{Bool, true, false}
-use Prim.Native.Nat.{ℕ}
-use native.Mathlib.Omega.{arith}
 use borrow.Author.Tests.{eq-eqb, ne_eqb}
-use lib.Dec.{eqb}
-use lib.ListN.{length}
-use lib.IntN.{ℤ, pos, nat_abs}
 use mir.Syntax.{w64}
-use mir.Val.{of_z}
-use Rattle.integers.specs.Range.{is_zero}
+use mir.Val.{to_z}
+use Rattle.std.proofs.lemmas.Int.{ints}
+use Rattle.std.specs.Int.{int_rem_euclid}
 use Rattle.integers.specs.Run.{at, tabulate}
-use Rattle.integers.proofs.Laws.Order.{nonneg_is}
-use Rattle.integers.proofs.Laws.Bits.{fits, stored, stored_is, bits_eq}
-use Rattle.integers.proofs.Laws.Decide.{by_zero, decides_no}
+use Rattle.integers.proofs.Laws.Bits.{stored_is}
+use Rattle.integers.proofs.Laws.Run.{tabulate_is}
 use Rattle.checker.specs.Fact.{Fact}
 use Rattle.checker.specs.NormalForm.{residue, unit_by}
-use Rattle.checker.specs.Answer.{answer_of}
+use Rattle.checker.specs.Answer.{stated}
 use Rattle.checker.specs.Code.{fact_of, made_positive, finished}
-use Rattle.checker.specs.declared.Answer.TheVariants.{Fact as Stated}
+use Rattle.checker.proofs.Laws.Facts.{residue_is}
 use Rattle.checker.proofs.Laws.Short.{finished_equality, finished_congruence}
 use Rattle.checker.proofs.finish.Goals as goal
-use Rattle.checker.proofs.finish.Goals.{After-is_zero, Else-is_zero, Else-modulus-eq1, Start, Then-is_zero, Then-modulus-eq1}
 
--- the fact at entry, and its length
-abbrev entry : Start → Fact
-entry s = fact_of s.args.coeffs.now s.args.constant s.args.modulus
+module _ (run : List ℤ) (constant : ℤ) (modulus : ℕ) where
+  equality : (k : ℤ) → k ≡ constant → modulus ≡ 0 → made_positive (length run) (fact_of run k (pos 0)) ≡ finished (length run) (fact_of run constant (pos modulus))
+  equality k e zero = ap₂ (λ k m. made_positive (length run) (fact_of run k (pos m))) e (sym zero) ∙ sym (finished_equality (length run) (fact_of run constant (pos modulus)) (ap pos zero))
 
-abbrev long : Start → ℕ
-long s = length s.args.coeffs.now
+  congruence : (t : Bool) → t ≡ eqb modulus 1 → 0 < modulus → unit_by t (fact_of run constant (pos modulus)) ≡ finished (length run) (fact_of run constant (pos modulus))
+  congruence t e some = ap (λ (b : Bool). unit_by b (fact_of run constant (pos modulus))) e ∙ sym (finished_congruence (length run) (fact_of run constant (pos modulus)) (λ z. omega (arith, ap nat_abs z)))
 
-zero_is : (c : After-is_zero) → c.is_zero.result ≡ is_zero c.args.modulus
-zero_is c = c.is_zero.ensures ∙ ap is_zero (stored_is c.ranges.modulus)
+pub returns-in-0-clause-value : goal.returns-in-0-clause-value
+returns-in-0-clause-value c = c.make_positive.ensures.value ∙ ap stated (equality c.args.coeffs.now c.args.constant c.args.modulus _ (stored_is c.ranges.constant) c.in-0.is)
 
-modulus-zero : (c : Then-is_zero) → c.args.modulus ≡ pos 0
-modulus-zero c = (by_zero c.args.modulus).yes (sym (zero_is c.before) ∙ c.if-is_zero.true)
+pub returns-in-0-clause-coeffs_after : goal.returns-in-0-clause-coeffs_after
+returns-in-0-clause-coeffs_after c = c.make_positive.ensures.coeffs_after ∙ ap (λ (h : Fact). tabulate (length c.args.coeffs.now) h.coef) (equality c.args.coeffs.now c.args.constant c.args.modulus _ (stored_is c.ranges.constant) c.in-0.is)
 
-equality-is : (c : Then-is_zero) → made_positive (long c.before.before) (fact_of c.args.coeffs.now (stored c.args.constant) (pos 0)) ≡ finished (long c.before.before) (entry c.before.before)
-equality-is c = ap₂ (λ (k m : ℤ). made_positive (long c.before.before) (fact_of c.args.coeffs.now k m)) (stored_is c.ranges.constant) (sym (modulus-zero c)) ∙ sym (finished_equality (long c.before.before) (entry c.before.before) (modulus-zero c))
-
-pub returns-then-is_zero : goal.returns-then-is_zero
-returns-then-is_zero c =
-    record {
-      value = c.make_positive.ensures.value ∙ ap (answer_of 0) (equality-is c.before.before.before);
-      coeffs_after = c.make_positive.ensures.coeffs_after ∙ ap (λ (h : Fact). tabulate (long c.before.before.before.before.before) h.coef) (equality-is c.before.before.before);
-    }
-
-modulus-nonzero : (c : Else-is_zero) → c.args.modulus ≡ pos 0 → ⊥
-modulus-nonzero c = decides_no (by_zero c.args.modulus) (sym (zero_is c.before) ∙ c.if-is_zero.false)
-
-by-unit : (c : Else-is_zero) (t : Bool) → eqb (nat_abs c.args.modulus) 1 ≡ t → unit_by t (entry c.before.before) ≡ finished (long c.before.before) (entry c.before.before)
-by-unit c t e = sym (finished_congruence (long c.before.before) (entry c.before.before) (modulus-nonzero c) ∙ ap (λ (b : Bool). unit_by b (entry c.before.before)) e)
-
-unit-is : (c : Then-modulus-eq1) → unit_by true (entry c.before.before.before) ≡ finished (long c.before.before.before) (entry c.before.before.before)
-unit-is c = by-unit c.before true (eq-eqb (nat_abs c.args.modulus) 1 (ap nat_abs (bits_eq c.args.modulus (pos 1) c.ranges.modulus (fits (pos 1) (omega arith)) c.if-modulus-eq1.true)))
-
-residues-are : (c : Else-modulus-eq1) → unit_by false (entry c.before.before.before) ≡ finished (long c.before.before.before) (entry c.before.before.before)
-residues-are c = by-unit c.before false (ne_eqb (nat_abs c.args.modulus) 1 (λ e. c.if-modulus-eq1.false (ap (of_z w64) (nonneg_is c.args.modulus c.requires.1 ∙ ap pos e))))
-
-pub returns-then-modulus-eq1 : goal.returns-then-modulus-eq1
+pub returns-in-1-clause-value : goal.returns-in-1-clause-value
 unfolding unit_by
-returns-then-modulus-eq1 c =
-    record {
-      value = ap (answer_of 0) (unit-is c.before.before.before);
-      coeffs_after = c.change_all.ensures ∙ ap (λ (h : Fact). tabulate (long c.before.before.before.before.before.before) h.coef) (unit-is c.before.before.before);
-    }
+returns-in-1-clause-value c = ap stated (congruence c.args.coeffs.now c.args.constant c.args.modulus true (sym (eq-eqb c.args.modulus 1 c.in-1.is)) (omega (arith, c.in-1.is)))
 
-pub returns : goal.returns
+pub returns-in-1-clause-coeffs_after : goal.returns-in-1-clause-coeffs_after
 unfolding unit_by
-returns c =
-    record {
-      value = ap₂ (λ (k m : ℤ). Stated k m)
-          (stored_is (record { sfits = c.changed.type_inv }) ∙ c.changed.ensures ∙ ap₂ residue (stored_is c.ranges.modulus) (stored_is c.ranges.constant))
-          (stored_is c.ranges.modulus) ∙ ap (answer_of 0) (residues-are c.before.before.before.before);
-      coeffs_after = c.change_all-2.ensures ∙ ap (λ (m : ℤ). tabulate (long c.before.before.before.before.before.before.before) (λ j. residue m (at c.args.coeffs.now j))) (stored_is c.ranges.modulus) ∙ ap (λ (h : Fact). tabulate (long c.before.before.before.before.before.before.before) h.coef) (residues-are c.before.before.before.before);
-    }
+returns-in-1-clause-coeffs_after c =
+    let zeros : (j : ℕ) → j < length c.args.coeffs.now → at c.fill.new.self j ≡ pos 0 = λ j l. search rules in
+    tabulate_is (length c.args.coeffs.now) (λ j. pos 0) c.fill.new.self c.fill.auto.self zeros
+    ∙ ap (λ (h : Fact). tabulate (length c.args.coeffs.now) h.coef) (congruence c.args.coeffs.now c.args.constant c.args.modulus true (sym (eq-eqb c.args.modulus 1 c.in-1.is)) (omega (arith, c.in-1.is)))
+
+pub returns-in_default-clause-value : goal.returns-in_default-clause-value
+unfolding unit_by
+returns-in_default-clause-value c =
+    let some : 0 < c.args.modulus = omega arith in
+    let modulus : to_z w64 c.args.modulus ≡ pos c.args.modulus = omega (arith, ints, c.requires.modulus) in
+    ap₂ (λ (k m : ℤ). record { constant = k; modulus = m })
+    (stored_is (record { sfits = c.rem_euclid.type_inv }) ∙ c.rem_euclid.ensures.value ∙ ap₂ int_rem_euclid (stored_is c.ranges.constant) modulus ∙ residue_is c.args.modulus c.args.constant some) modulus
+    ∙ ap stated (congruence c.args.coeffs.now c.args.constant c.args.modulus false (sym (ne_eqb c.args.modulus 1 (λ e. omega (arith, e)))) some)
+
+pub returns-in_default-clause-coeffs_after : goal.returns-in_default-clause-coeffs_after
+unfolding unit_by
+returns-in_default-clause-coeffs_after c =
+    let some : 0 < c.args.modulus = omega arith in
+    let modulus : to_z w64 c.args.modulus ≡ pos c.args.modulus = omega (arith, ints, c.requires.modulus) in
+    let remainders : (j : ℕ) → j < length c.args.coeffs.now → at c.change_all.new.run j ≡ int_rem_euclid (at c.args.coeffs.now j) (to_z w64 c.args.modulus) = λ j l. let e = c.change_all.ensures j l in search rules in
+    tabulate_is (length c.args.coeffs.now) (λ j. residue (pos c.args.modulus) (at c.args.coeffs.now j)) c.change_all.new.run c.change_all.auto.run
+    (λ j l. remainders j l ∙ ap (int_rem_euclid (at c.args.coeffs.now j)) modulus ∙ residue_is c.args.modulus (at c.args.coeffs.now j) some)
+    ∙ ap (λ (h : Fact). tabulate (length c.args.coeffs.now) h.coef) (congruence c.args.coeffs.now c.args.constant c.args.modulus false (sym (ne_eqb c.args.modulus 1 (λ e. omega (arith, e)))) some)

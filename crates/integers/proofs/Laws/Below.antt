@@ -10,6 +10,7 @@
 --               all_range      `all` of 0..n     any_range      `any` of 0..n
 --     Any       any_each       false: false at each place    any_false    the other way round
 --               any_true       true at a place: true         any_place    true: a place at which it is true
+--               any_same       the same tests: the same answer
 --     Loops     a loop that leaves at the first place where a test fails, or holds, and the place that it has reached
 --               all_onward     one place more                all_stop     it leaves with false      all_end    with true
 --               any_onward     one place more                any_stop     it leaves with true       any_end    with false
@@ -106,6 +107,11 @@ all_split a (suc b) t = let e : a + suc b ≡ suc (a + b) = omega arith in let f
 
 -- Any ------------------------------------------------------------------------------------------------------------------
 
+pub any_same : (n : ℕ) (t u : ℕ → Bool) → ((i : ℕ) → i < n → t i ≡ u i) → any_below n t ≡ any_below n u
+unfolding any_below
+any_same zero t u h = refl
+any_same (suc n) t u h = ap₂ (λ (a b : Bool). a || b) (any_same n t u (λ i l. h i (omega arith))) (h n (omega arith))
+
 or_parts : (a b : Bool) → a || b ≡ false → (a ≡ false) × (b ≡ false)
 or_parts true b e = absurd (true≢false e)
 or_parts false b e = (refl, e)
@@ -198,18 +204,13 @@ all_from a (suc n) t =
 pub all_range : (n : ℕ) (t : ℕ → Bool) → list_all t (range_with_len 0 n) ≡ all_below n t
 all_range n t = all_from 0 n t ∙ all_same n (λ i. t (0 + i)) t (λ i l. ap t (omega arith))
 
-any_same : (n : ℕ) (t u : ℕ → Bool) → ((i : ℕ) → t i ≡ u i) → any_below n t ≡ any_below n u
-unfolding any_below
-any_same zero t u h = refl
-any_same (suc n) t u h = ap₂ (λ (a b : Bool). a || b) (any_same n t u h) (h n)
-
 any_from : (a n : ℕ) (t : ℕ → Bool) → list_any t (range_with_len a n) ≡ any_below n (λ i. t (a + i))
 unfolding any_below
 any_from a zero t = refl
 any_from a (suc n) t =
-    ap (λ (u : Bool). t a || u) (any_from (a + 1) n t ∙ any_same n (λ i. t (a + 1 + i)) (λ i. t (a + suc i)) (λ i. ap t (omega arith)))
+    ap (λ (u : Bool). t a || u) (any_from (a + 1) n t ∙ any_same n (λ i. t (a + 1 + i)) (λ i. t (a + suc i)) (λ i l. ap t (omega arith)))
     ∙ ap (λ (k : ℕ). t k || any_below n (λ i. t (a + suc i))) (omega arith)
     ∙ sym (any_front n (λ i. t (a + i)))
 
 pub any_range : (n : ℕ) (t : ℕ → Bool) → list_any t (range_with_len 0 n) ≡ any_below n t
-any_range n t = any_from 0 n t ∙ any_same n (λ i. t (0 + i)) t (λ i. ap t (omega arith))
+any_range n t = any_from 0 n t ∙ any_same n (λ i. t (0 + i)) t (λ i l. ap t (omega arith))

@@ -17,11 +17,12 @@
 --                    dot_bound       |c i| ≤ C and |x i| ≤ X: |c · x| ≤ n C X
 --                    dot-divides     d divides each c i: d divides c · x
 --                    dot_near        c · x - k stays a multiple of d where the c i and k change by multiples of d
+--     Loops          sum_turn        a turn of a loop that sums signed numbers
 --
 -- In `sum_ext` write both functions out: antt does not find them. Assumes nothing.
-use mathlib.Core.Path.{◌≡◌, refl, sym, ◌∙◌, ap, ap₂}
+use mathlib.Core.Path.{◌≡◌, refl, sym, ◌∙◌, ap, ap₂, subst}
 use mathlib.Core.List.{[], ◌∷◌}
-use Prim.Native.Nat.{ℕ, zero, suc, ◌+◌, ◌*◌, ◌<◌, ◌≤◌}
+use Prim.Native.Nat.{ℕ, zero, suc, ◌+◌, ◌*◌, ◌^◌, ◌<◌, ◌≤◌}
 use native.Mathlib.Numerals.{add-one}
 use native.Mathlib.Omega.{arith}
 use native.Mathlib.Decide.{ℕ_discrete}
@@ -30,7 +31,8 @@ use Rattle.integers.specs.Divisibility.{◌∣ℤ◌}
 use Rattle.integers.specs.Sum.{sum, dot}
 use Rattle.integers.proofs.Laws.Ring.{from1}
 use Rattle.integers.proofs.Laws.Normaliser.{ring!, quote}
-use Rattle.integers.proofs.Laws.Magnitude.{nat_abs_add, mul_bound}
+use Rattle.integers.proofs.Laws.Magnitude.{nat_abs_add, add_bound, mul_bound}
+use Rattle.integers.proofs.Laws.Bits.{stored, stored_is, fits}
 use Rattle.integers.proofs.Laws.Divisibility.{∣_add, ∣_sub, ∣_mulʳ, ∣_zero, ∣_eq}
 
 -- Turns ----------------------------------------------------------------------------------------------------------------
@@ -147,3 +149,15 @@ dot_near n d c e x k l h g s = ∣_eq (join (dot n c x) (dot n e x) (dot n (λ j
 
     join : (a b y k l : ℤ) → a ≡ y +ℤ b → ((a -ℤ k) -ℤ y) +ℤ (k -ℤ l) ≡ b -ℤ l
     join a b y k l f = from1 (pos 1) f (ring! (a ∷ b ∷ y ∷ k ∷ l ∷ []) (search quote depth 40 fits 20000) tt)
+
+-- A signed running sum -------------------------------------------------------------------------------------------------
+
+-- the turn at n, as a loop on `i64` leaves it: the next sum, and its bound
+pub sum_turn : (n B : ℕ) (f : ℕ → ℤ) (so_far x : ℤ) → so_far ≡ sum n f → nat_abs so_far ≤ n * B → x ≡ f n → nat_abs x ≤ B → (n + 1) * B < 2 ^ 63 →
+    (stored (so_far +ℤ stored x) ≡ sum (n + 1) f) × (nat_abs (stored (so_far +ℤ stored x)) ≤ (n + 1) * B)
+sum_turn n B f so_far x e h g k room =
+    let more : (n + 1) * B ≡ n * B + B = omega arith in
+    let reads : stored x ≡ x = stored_is (fits x (omega arith)) in
+    let total = add_bound so_far x h k in
+    let is : stored (so_far +ℤ stored x) ≡ so_far +ℤ x = ap (λ y. stored (so_far +ℤ y)) reads ∙ stored_is (fits (so_far +ℤ x) (omega arith)) in
+    (is ∙ ap₂ (λ y z. y +ℤ z) e g ∙ sym (sum_more n f), subst (λ y. nat_abs y ≤ (n + 1) * B) (sym is) (omega arith))
