@@ -4,14 +4,14 @@ use mathlib.Core.Path.{◌≡◌}
 use mathlib.Core.List.{List}
 use Prim.Native.Nat.{ℕ}
 use lib.IntN.{ℤ}
+use Rattle.std.proofs.Common.{Result}
 use Rattle.integers.proofs.Determined.{determined}
-use Rattle.search.specs.Answer.{search_reply, search_vector, search_point, table_reply, table_run}
-use Rattle.search.specs.declared.Reply.{Reply}
-use Rattle.search.specs.declared.TableReply.{TableReply}
+use Rattle.problem.specs.declared.Refusal.{Refusal}
+use Rattle.search.specs.Answer.{Answer, search_reply, search_vector, search_point, table_reply, table_run}
 
 module _ (n ma mb : ℕ) (a b : List ℤ) (budget : ℕ) where
   module _ (vector point : List ℤ) where
-    pub search_determined : (r s : Reply) → r ≡ search_reply n ma mb a b budget vector point → s ≡ search_reply n ma mb a b budget vector point → r ≡ s
+    pub search_determined : (r s : Result Answer Refusal) → r ≡ search_reply n ma mb a b budget vector point → s ≡ search_reply n ma mb a b budget vector point → r ≡ s
     search_determined r s = determined
 
     pub search_vector_determined : (exit other : List ℤ) → exit ≡ search_vector n ma mb a b budget vector point → other ≡ search_vector n ma mb a b budget vector point → exit ≡ other
@@ -21,7 +21,7 @@ module _ (n ma mb : ℕ) (a b : List ℤ) (budget : ℕ) where
     search_point_determined exit other = determined
 
   module _ (cells : List ℤ) where
-    pub table_after_determined : (r s : TableReply) → r ≡ table_reply n ma mb a b budget cells → s ≡ table_reply n ma mb a b budget cells → r ≡ s
+    pub table_after_determined : (r s : Result Unit Refusal) → r ≡ table_reply n ma mb a b budget cells → s ≡ table_reply n ma mb a b budget cells → r ≡ s
     table_after_determined r s = determined
 
     pub table_after_run_determined : (exit other : List ℤ) → exit ≡ table_run n ma mb a b budget cells → other ≡ table_run n ma mb a b budget cells → exit ≡ other

@@ -24,6 +24,7 @@ pub mod Scan
 pub mod Sound
 pub mod Run
 pub mod Start
+pub mod Made
 pub mod Refusal
 pub mod Sums
 pub mod Close

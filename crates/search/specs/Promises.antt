@@ -15,11 +15,12 @@
 --     Exceeds s             the next step of s would put a number above its bound; one case for each place
 --     Overflows s budget    so does some step from s within the budget, before which the search is unfinished
 --     Demand                demand 3 of one call of `search`, for every budget
-use Rattle.std.specs.Prelude.{◌≡◌, Bool, true, false, cond, List, ℕ, suc, ◌+◌, ◌<◌, ◌≤◌, ℤ, pos, nat_abs}
+use Rattle.std.specs.Prelude.{◌≡◌, Bool, true, false, cond, List, ℕ, suc, ◌+◌, ◌<◌, ◌≤◌, ℤ, pos, nat_abs, Result, Ok, Err}
 use Rattle.std.specs.Int.Signed.{quot_z}
 use Rattle.integers.specs.Range.{is_zero}
 use Rattle.integers.specs.Divisibility.{◌∣ℤ◌}
 use Rattle.integers.specs.Run.{at}
+use Rattle.problem.specs.declared.Refusal.{Refusal}
 use Rattle.problem.specs.Rows.{Rows, side_of, rows_of}
 use Rattle.problem.specs.Points.{Meets}
 use Rattle.problem.specs.WellFormed.{million, Shape, WellFormed}
@@ -29,9 +30,7 @@ use Rattle.search.specs.State.{State, Outcome, Unfinished, TooLarge, Refuted, So
 use Rattle.search.specs.Vector.{Vector, vector_of}
 use Rattle.search.specs.Step.{first_column, second_column, quotient, close_table, residual_of, place_of, passed, placed}
 use Rattle.search.specs.Run.{is_unfinished, after}
-use Rattle.search.specs.Answer.{search_reply, search_vector, search_point}
-use Rattle.search.specs.declared.Reply.{Reply}
-use Rattle.search.specs.declared.Reply.TheVariants.{Refused, Answered}
+use Rattle.search.specs.Answer.{Answer, search_reply, search_vector, search_point}
 
 abbrev pub Exactly : Type 0 → Type 0 → Type 0
 Exactly P Q = (P → Q) × (Q → P)
@@ -49,13 +48,13 @@ pub data Refuses (n ma mb : ℕ) (a b : List ℤ) (Fit : Type 0) : ℕ → Type 
 pub record Outnumber (s : State) (budget : ℕ) : Type 0 where
   pub each : (b : ℕ) → b ≤ budget → is_unfinished (after b s).outcome ≡ true
 
-abbrev pub says_unfinished : Reply → Bool
-says_unfinished (Refused k) = false
-says_unfinished (Answered r) = is_unfinished r.outcome
+abbrev pub says_unfinished : Result Answer Refusal → Bool
+says_unfinished (Ok r) = is_unfinished r.outcome
+says_unfinished (Err k) = false
 
-abbrev pub Says : Reply → Outcome → Type 0
-Says (Refused k) o = ⊥
-Says (Answered r) o = r.outcome ≡ o
+abbrev pub Says : Result Answer Refusal → Outcome → Type 0
+Says (Ok r) o = r.outcome ≡ o
+Says (Err k) o = ⊥
 
 -- "24 × 28 + 1 = 673 steps a row, 8,076 in all"
 abbrev pub most_steps : ℕ
@@ -135,7 +134,7 @@ module _ (n ma mb : ℕ) (a b vector point : List ℤ) where
   rows = rows_of n ma mb a b
 
   -- the answer under a budget, and what the runs then hold
-  abbrev answer : ℕ → Reply
+  abbrev answer : ℕ → Result Answer Refusal
   answer budget = search_reply n ma mb a b budget vector point
 
   abbrev vector_run : ℕ → List ℤ
@@ -148,7 +147,7 @@ module _ (n ma mb : ℕ) (a b vector point : List ℤ) where
     -- it says "unfinished" exactly when the steps outnumber the budget
     pub unfinished : (budget : ℕ) → Exactly (says_unfinished (answer budget) ≡ true) (Outnumber (start n rows) budget)
     -- with the budget as its count
-    pub counted : (budget : ℕ) → says_unfinished (answer budget) ≡ true → answer budget ≡ Answered (record { steps = budget; outcome = Unfinished })
+    pub counted : (budget : ℕ) → says_unfinished (answer budget) ≡ true → answer budget ≡ Ok (record { steps = budget; outcome = Unfinished })
     -- and then hands out no vector and no point
     pub unwritten : (budget : ℕ) → says_unfinished (answer budget) ≡ true → (vector_run budget ≡ vector) × (point_run budget ≡ point)
     -- once it finishes under some budget, every larger budget gives the same answer and count, and the same runs

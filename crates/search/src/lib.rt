@@ -1,7 +1,7 @@
 // The search: the paper's machine, one step at a time.
 #![tactic(auto)]
 
-ghost use Rattle.std.specs.Prelude.{◌≡◌, true, false, not, cond, ◌&&◌, ◌+◌, ◌*◌, ◌-◌, ◌<◌, ◌≤◌, ◌^◌, eqb, ltb, get_or, set, ℤ, pos, nat_abs, neg_ℤ, ◌-ℤ◌, ◌*ℤ◌};
+ghost use Rattle.std.specs.Prelude.{◌≡◌, true, false, not, cond, ◌&&◌, ◌+◌, ◌*◌, ◌-◌, ◌<◌, ◌≤◌, ◌^◌, eqb, ltb, get_or, set, length, ℤ, pos, nat_abs, neg_ℤ, ◌-ℤ◌, ◌*ℤ◌};
 ghost use Rattle.std.specs.Int.Signed.{quot_z, rem_z};
 ghost use Rattle.integers.specs.Range.{within};
 ghost use Rattle.integers.specs.Gcd.{gcd_ℤ};
@@ -10,17 +10,21 @@ ghost use Rattle.integers.specs.Sum.{dot};
 ghost use Rattle.integers.specs.Below.{all_below};
 ghost use Rattle.integers.specs.Run.{at, tabulate};
 ghost use Rattle.problem.specs.Rows.{rows_of};
-ghost use Rattle.problem.specs.WellFormed.{million, WellFormed};
+ghost use Rattle.problem.specs.WellFormed.{million};
+ghost use Rattle.problem.specs.Lent.{lent};
 ghost use Rattle.search.specs.State.{own_column, upper_cell, start_table, start};
 ghost use Rattle.search.specs.Table.{bound, cell, Bounded, less_times, subtract_column, subtraction_fits, swap_columns, negate_column};
 ghost use Rattle.search.specs.Vector.{checked, unit_vector, column_sum, back_one, back_from, vector_of};
 ghost use Rattle.search.specs.Step.{least, other, quotient, too_large, close_table, residual_of, passed, placed, solve_by, closed, refute_by, close_by, close_of, step_of};
 ghost use Rattle.search.specs.Run.{is_unfinished, after};
-ghost use Rattle.search.specs.Answer.{refusal_of, is_refuted, is_solved, written_by, searched, search_reply, search_vector, search_point, table_reply, table_run};
+ghost use Rattle.search.specs.Answer.{written_by, search_reply, search_vector, search_point, table_reply, table_run};
 ghost use Rattle.search.specs.Code.{largest_sum, last_count, entered_row, entered_diagonal, Sound, Backable, Backs, Solvable, Vectorable, Closable};
 
+use problem::{Problem, Refusal, Rows};
+use std::array;
+
 // How a search ended, or that it did not.
-#[derive(Clone, Copy)]
+#[derive(Clone, Copy, Debug, PartialEq, Eq)]
 pub enum Outcome {
     Unfinished,
     TooLarge,
@@ -29,24 +33,10 @@ pub enum Outcome {
 }
 
 // The count of steps beside the outcome.
-#[derive(Clone, Copy)]
+#[derive(Clone, Copy, Debug, PartialEq, Eq)]
 pub struct Answer {
     pub steps: u32,
     pub outcome: Outcome,
-}
-
-// What a search answers, or the number of a refusal before its first step.
-#[derive(Clone, Copy)]
-pub enum Reply {
-    Refused(u8),
-    Answered(Answer),
-}
-
-// What `table_after` answers.
-#[derive(Clone, Copy)]
-pub enum TableReply {
-    Refused(u8),
-    Copied,
 }
 
 // What of a problem stays through its search: variables, rows, columns in use, and the rows' constants.
@@ -83,145 +73,78 @@ struct Vector {
 // Searches with a budget of steps. A refuted problem's vector, or a solved one's point, is written into its run; all else is left
 // as it was.
 pub fn search(
-    n: usize,
-    ma: usize,
-    mb: usize,
-    a: &[i64],
-    b: &[i64],
+    problem: &Problem,
     budget: u32,
     vector: &mut [i64],
     point: &mut [i64],
-) -> Reply
-    ensures value { result ≡ search_reply n ma mb a.now b.now budget vector.old point.old }
-    ensures vector_after { vector.new ≡ search_vector n ma mb a.now b.now budget vector.old point.old }
-    ensures point_after { point.new ≡ search_point n ma mb a.now b.now budget vector.old point.old }
+) -> Result<Answer, Refusal>
+    ensures value { result ≡ lent search_reply problem.now budget vector.old point.old }
+    ensures vector_after { vector.new ≡ lent search_vector problem.now budget vector.old point.old }
+    ensures point_after { point.new ≡ lent search_point problem.now budget vector.old point.old }
 {
-    let number = refusal(
-        n,
-        ma,
-        mb,
-        a,
-        b,
-        lengths_fit(n, ma, mb, vector.len(), point.len()),
-    );
-    if number != 0 {
-        return Reply::Refused(number);
+    let rows = problem.rows(lengths_fit(problem, vector, point))?;
+    let state = State::start(&rows).run(budget);
+    match state.outcome {
+        Outcome::Refuted(_) => write(&state.found, vector),
+        Outcome::Solved => write(&state.found, point),
+        Outcome::Unfinished | Outcome::TooLarge => {}
     }
-    let s = searched(n, ma, mb, a, b, budget);
-    let outcome = s.outcome;
-    let found = s.numbers();
-    write_if(is_refuted(outcome), &found, vector);
-    write_if(is_solved(outcome), &found, point);
-    Reply::Answered(Answer {
-        steps: s.steps,
-        outcome: outcome,
+    Ok(Answer {
+        steps: state.steps,
+        outcome: state.outcome,
     })
 }
 
 // Copies the table after a budget of steps, or after the last.
-pub fn table_after(
-    n: usize,
-    ma: usize,
-    mb: usize,
-    a: &[i64],
-    b: &[i64],
-    budget: u32,
-    cells: &mut [i64],
-) -> TableReply
-    ensures value { result ≡ table_reply n ma mb a.now b.now budget cells.old }
-    ensures cells_after { cells.new ≡ table_run n ma mb a.now b.now budget cells.old }
+pub fn table_after(problem: &Problem, budget: u32, cells: &mut [i64]) -> Result<(), Refusal>
+    ensures value { result ≡ lent table_reply problem.now budget cells.old }
+    ensures cells_after { cells.new ≡ lent table_run problem.now budget cells.old }
 {
-    let number = refusal(n, ma, mb, a, b, cells.len() == 864);
-    if number != 0 {
-        return TableReply::Refused(number);
-    }
-    let s = searched(n, ma, mb, a, b, budget);
-    let table = s.cells;
-    write_if(true, &table, cells);
-    TableReply::Copied
+    let rows = problem.rows(cells.len() == 864)?;
+    let state = State::start(&rows).run(budget);
+    write(&state.cells, cells);
+    Ok(())
 }
 
-// The first refusal of a problem whose lent runs fit or not, 0 if there is none.
-#[tactic(auto, unfolding(crate::specs::Answer::refusal_of))]
-fn refusal(n: usize, ma: usize, mb: usize, a: &[i64], b: &[i64], fit: bool) -> u8
-    ensures { result ≡ refusal_of n ma mb a.now b.now fit }
+// Whether the vector has a place for each row, and the point one for each variable. The count of rows is not computed, since any
+// numbers are taken.
+fn lengths_fit(problem: &Problem, vector: &[i64], point: &[i64]) -> bool
+    ensures { result ≡ eqb (length vector.now) (problem.now.ma + problem.now.mb) && eqb (length point.now) problem.now.n }
 {
-    let problem = problem::Problem { n, ma, mb, a, b };
-    if !problem.has_shape() {
-        return 1;
-    }
-    if !fit {
-        return 2;
-    }
-    if !problem.is_well_formed() {
-        return 3;
-    }
-    0
+    vector.len().checked_sub(problem.ma) == Some(problem.mb) && point.len() == problem.n
 }
 
-// Whether the vector is m long and the point n; m is not computed, since any numbers are taken.
-fn lengths_fit(n: usize, ma: usize, mb: usize, vector: usize, point: usize) -> bool
-    ensures { result ≡ eqb vector (ma + mb) && eqb point n }
+// Writes as many numbers as the run is long.
+fn write<const N: usize>(numbers: &[i64; N], run: &mut [i64])
+    requires { length run.old ≤ N }
+    ensures { run.new ≡ written_by true numbers.now run.old }
 {
-    if vector < ma {
-        return false;
-    }
-    if vector - ma != mb {
-        return false;
-    }
-    point == n
-}
-
-// The state after as many steps as the budget allows, or as there are.
-fn searched(n: usize, ma: usize, mb: usize, a: &[i64], b: &[i64], budget: u32) -> State
-    requires { WellFormed n ma mb a.now b.now }
-    ensures { result ≡ searched n ma mb a.now b.now budget }
-{
-    let s = start(n, ma, mb, a, b);
-    s.run(budget)
-}
-
-// Writes as many numbers as the run is long, if the test holds.
-fn write_if(test: bool, numbers: &[i64], run: &mut [i64])
-    ensures { run.new ≡ written_by test numbers.now run.old }
-{
-    if test {
-        let mut i: usize = 0;
-        while i < run.len() {
-            run[i] = integers::at(numbers, i);
-            i += 1;
-        }
-    }
-}
-
-fn is_refuted(o: Outcome) -> bool
-    ensures { result ≡ is_refuted o }
-{
-    match o {
-        Outcome::Unfinished => false,
-        Outcome::TooLarge => false,
-        Outcome::Refuted(q) => true,
-        Outcome::Solved => false,
-    }
-}
-
-fn is_solved(o: Outcome) -> bool
-    ensures { result ≡ is_solved o }
-{
-    match o {
-        Outcome::Unfinished => false,
-        Outcome::TooLarge => false,
-        Outcome::Refuted(q) => false,
-        Outcome::Solved => true,
-    }
+    run.copy_from_slice(&numbers[..run.len()]);
 }
 
 impl State {
-    // The numerators of a refuted problem, the point of a solved one.
-    fn numbers(self) -> [i64; 12]
-        ensures { result ≡ self.found }
+    // The state before the first step.
+    fn start(rows: &Rows) -> State
+        ensures value { result ≡ start rows.now.problem.n (lent rows_of rows.now.problem) }
+        ensures sound { Sound result }
+        ensures no_steps { result.steps ≡ 0 }
     {
-        self.found
+        State {
+            given: Given {
+                n: rows.problem.n,
+                m: rows.problem.ma + rows.problem.mb,
+                width: own_column(rows, rows.problem.ma + rows.problem.mb),
+                consts: constants(rows),
+            },
+            cells: start_table(rows),
+            row: 0,
+            count: 0,
+            pivots: [0; 12],
+            zs: [0; 12],
+            steps: 0,
+            outcome: Outcome::Unfinished,
+            found: [0; 12],
+        }
     }
 
     // As many steps as the budget allows, or as there are.
@@ -509,32 +432,14 @@ fn least(cells: &[i64; 864], row: usize, lo: usize, hi: usize) -> usize
     ensures { result ≡ least (cell cells.now row) lo (hi - lo) }
 {
     let mut best = lo;
-    let mut j = lo;
-    while j < hi {
-        let x = integers::magnitude(get(cells, row, j));
-        let y = integers::magnitude(get(cells, row, best));
-        best = choose(comes_before(x, y), j, best);
-        j += 1;
+    for j in lo..hi {
+        let x = get(cells, row, j).unsigned_abs();
+        let y = get(cells, row, best).unsigned_abs();
+        if x != 0 && (y == 0 || x < y) {
+            best = j;
+        }
     }
     best
-}
-
-fn comes_before(x: u64, y: u64) -> bool
-    ensures { result ≡ not (eqb x 0) && cond (eqb y 0) true (ltb x y) }
-{
-    if x == 0 {
-        return false;
-    }
-    if y == 0 {
-        return true;
-    }
-    x < y
-}
-
-fn choose(c: bool, x: usize, y: usize) -> usize
-    ensures { result ≡ cond c x y }
-{
-    if c { x } else { y }
 }
 
 // The first other nonzero column among lo..hi; the first column itself if there is none.
@@ -542,23 +447,9 @@ fn other(cells: &[i64; 864], row: usize, first: usize, lo: usize, hi: usize) -> 
     requires { (row < 36) × (hi ≤ 24) }
     ensures { result ≡ other (cell cells.now row) first lo (hi - lo) }
 {
-    let mut found = first;
-    let mut j = lo;
-    while j < hi {
-        let zero = integers::is_zero(get(cells, row, j));
-        found = choose(is_other(found, first, zero), j, found);
-        j += 1;
-    }
-    found
-}
-
-fn is_other(found: usize, first: usize, zero: bool) -> bool
-    ensures { result ≡ eqb found first && not zero }
-{
-    if found != first {
-        return false;
-    }
-    !zero
+    (lo..hi)
+        .find(|j| *j != first && get(cells, row, *j) != 0)
+        .unwrap_or(first)
 }
 
 // ---- The table
@@ -570,11 +461,13 @@ fn get(cells: &[i64; 864], i: usize, j: usize) -> i64
     cells[i * 24 + j]
 }
 
-fn put(cells: &mut [i64; 864], i: usize, j: usize, x: i64)
-    requires { (i < 36) × (j < 24) }
-    ensures { cells.new ≡ set cells.old (i * 24 + j) x }
+// What a subtraction puts into row i of the second column.
+fn reduced(cells: &[i64; 864], first: usize, second: usize, q: i64, i: usize) -> i64
+    requires places { (i < 36) × (first < 24) × (second < 24) }
+    requires bounds { (nat_abs q ≤ bound) × (nat_abs (cell cells.now i first) ≤ bound) × (nat_abs (cell cells.now i second) ≤ bound) }
+    ensures { result ≡ less_times (cell cells.now i second) q (cell cells.now i first) }
 {
-    cells[i * 24 + j] = x;
+    get(cells, i, second) - q * get(cells, i, first)
 }
 
 // Whether no cell of the second column would be too large.
@@ -582,28 +475,15 @@ fn subtraction_fits(cells: &[i64; 864], first: usize, second: usize, q: i64) -> 
     requires { (first < 24) × (second < 24) × (nat_abs q ≤ bound) × Bounded cells.now }
     ensures { result ≡ subtraction_fits cells.now first second q }
 {
-    let mut i: usize = 0;
-    while i < 36 {
-        let y = get(cells, i, second);
-        let x = get(cells, i, first);
-        if !in_bound(less_times(y, q, x)) {
-            return false;
-        }
-        i += 1;
-    }
-    true
+    (0..36).all(|i| in_bound(reduced(cells, first, second, q, i)))
 }
 
 fn subtract_column(cells: &mut [i64; 864], first: usize, second: usize, q: i64)
     requires { (first < 24) × (second < 24) × (nat_abs q ≤ bound) × Bounded cells.old }
     ensures { cells.new ≡ subtract_column cells.old first second q }
 {
-    let mut i: usize = 0;
-    while i < 36 {
-        let y = get(cells, i, second);
-        let x = get(cells, i, first);
-        put(cells, i, second, less_times(y, q, x));
-        i += 1;
+    for i in 0..36 {
+        cells[i * 24 + second] = reduced(cells, first, second, q, i);
     }
 }
 
@@ -611,13 +491,8 @@ fn swap_columns(cells: &mut [i64; 864], j: usize, k: usize)
     requires { (j < 24) × (k < 24) }
     ensures { cells.new ≡ swap_columns cells.old j k }
 {
-    let mut i: usize = 0;
-    while i < 36 {
-        let x = get(cells, i, j);
-        let y = get(cells, i, k);
-        put(cells, i, j, y);
-        put(cells, i, k, x);
-        i += 1;
+    for i in 0..36 {
+        cells.swap(i * 24 + j, i * 24 + k);
     }
 }
 
@@ -625,11 +500,8 @@ fn negate_column(cells: &mut [i64; 864], j: usize)
     requires { (j < 24) × Bounded cells.old }
     ensures { cells.new ≡ negate_column cells.old j }
 {
-    let mut i: usize = 0;
-    while i < 36 {
-        let x = get(cells, i, j);
-        put(cells, i, j, minus(x));
-        i += 1;
+    for i in 0..36 {
+        cells[i * 24 + j] = -cells[i * 24 + j];
     }
 }
 
@@ -875,13 +747,6 @@ fn divided(s: i64, g: i64) -> i64
     s / g
 }
 
-fn less_times(y: i64, q: i64, x: i64) -> i64
-    requires { (nat_abs y ≤ bound) × (nat_abs q ≤ bound) × (nat_abs x ≤ bound) }
-    ensures { result ≡ less_times y q x }
-{
-    y - q * x
-}
-
 fn less(d: i64, s: i64) -> i64
     requires { (nat_abs d ≤ bound) × (nat_abs s ≤ largest_sum) }
     ensures { result ≡ d -ℤ s }
@@ -913,132 +778,92 @@ fn minus(x: i64) -> i64
 
 // ---- The start
 
-// The state before the first step.
-fn start(n: usize, ma: usize, mb: usize, a: &[i64], b: &[i64]) -> State
-    requires { WellFormed n ma mb a.now b.now }
-    ensures { result ≡ start n (rows_of n ma mb a.now b.now) }
+fn start_table(rows: &Rows) -> [i64; 864]
+    ensures { result ≡ start_table rows.now.problem.n (lent rows_of rows.now.problem) }
 {
-    let m = ma + mb;
-    let width = own_column(n, ma, a, b, m);
-    let consts = constants(n, ma, mb, a, b);
-    let cells = start_table(n, ma, mb, a, b);
-    State {
-        given: Given {
-            n: n,
-            m: m,
-            width: width,
-            consts: consts,
-        },
-        cells: cells,
-        row: 0,
-        count: 0,
-        pivots: [0; 12],
-        zs: [0; 12],
-        steps: 0,
-        outcome: Outcome::Unfinished,
-        found: [0; 12],
+    let mut cells: [i64; 864] = [0; 864];
+    let m = rows.problem.ma + rows.problem.mb;
+    for i in 0..m {
+        enter_row(&mut cells, rows, i);
     }
+    enter_diagonal(&mut cells, own_column(rows, m));
+    cells
 }
 
-fn start_table(n: usize, ma: usize, mb: usize, a: &[i64], b: &[i64]) -> [i64; 864]
-    requires { (n ≤ 12) × (ma + mb ≤ 12) }
-    ensures { result ≡ start_table n (rows_of n ma mb a.now b.now) }
+// Enters the numbers of a row.
+fn enter_row(cells: &mut [i64; 864], rows: &Rows, i: usize)
+    requires { i < rows.now.problem.ma + rows.now.problem.mb }
+    ensures { cells.new ≡ entered_row rows.now.problem.n (lent rows_of rows.now.problem) i cells.old }
 {
-    let mut out: [i64; 864] = [0; 864];
-    let m = ma + mb;
-    let mut i: usize = 0;
-    while i < m {
-        enter_row(&mut out, n, ma, a, b, i);
-        i += 1;
-    }
-    enter_diagonal(&mut out, own_column(n, ma, a, b, m));
-    out
-}
-
-// Enters the numbers of a row. The number of B's rows does not matter here.
-fn enter_row(cells: &mut [i64; 864], n: usize, ma: usize, a: &[i64], b: &[i64], i: usize)
-    requires { (n ≤ 12) × (i < 12) }
-    ensures { cells.new ≡ entered_row n (rows_of n ma 0 a.now b.now) i cells.old }
-{
-    let own = own_column(n, ma, a, b, i);
-    let mut j: usize = 0;
-    while j < 24 {
-        put(cells, i, j, upper_cell(n, ma, a, b, i, j, own));
-        j += 1;
+    let own = own_column(rows, i);
+    for j in 0..24 {
+        cells[i * 24 + j] = upper_cell(rows, i, j, own);
     }
 }
 
 // A coefficient, or the modulus in the row's own column.
-fn upper_cell(n: usize, ma: usize, a: &[i64], b: &[i64], i: usize, j: usize, own: usize) -> i64
-    requires { (n ≤ 12) × (i ≤ 12) × (j < 24) × (own ≡ own_column n (rows_of n ma 0 a.now b.now) i) }
-    ensures { result ≡ upper_cell n (rows_of n ma 0 a.now b.now) i j }
+#[tactic(auto, unfolding(crate::specs::State::upper_cell))]
+fn upper_cell(rows: &Rows, i: usize, j: usize, own: usize) -> i64
+    requires { (i < rows.now.problem.ma + rows.now.problem.mb) × (own ≡ own_column rows.now.problem.n (lent rows_of rows.now.problem) i) }
+    ensures { result ≡ upper_cell rows.now.problem.n (lent rows_of rows.now.problem) i j }
 {
+    let n = rows.problem.n;
     if j < n {
-        return number(n, ma, a, b, i, j);
+        number(rows, i, j)
+    } else if j == own {
+        number(rows, i, n + 1)
+    } else {
+        0
     }
-    if j != own {
-        return 0;
-    }
-    number(n, ma, a, b, i, n + 1)
 }
 
 fn enter_diagonal(cells: &mut [i64; 864], width: usize)
     requires { width ≤ 24 }
     ensures { cells.new ≡ entered_diagonal width cells.old }
 {
-    let mut j: usize = 0;
-    while j < width {
-        put(cells, 12 + j, j, 1);
-        j += 1;
+    for j in 0..width {
+        cells[(12 + j) * 24 + j] = 1;
     }
 }
 
-// The column after the variables and the congruences before row i. The number of B's rows does not matter here.
-fn own_column(n: usize, ma: usize, a: &[i64], b: &[i64], i: usize) -> usize
-    requires { (n ≤ 12) × (i ≤ 12) }
-    ensures { result ≡ own_column n (rows_of n ma 0 a.now b.now) i }
+// The column after the variables and the congruences before row i.
+fn own_column(rows: &Rows, i: usize) -> usize
+    requires { i ≤ rows.now.problem.ma + rows.now.problem.mb }
+    ensures { result ≡ own_column rows.now.problem.n (lent rows_of rows.now.problem) i }
 {
-    let mut column = n;
-    let mut k: usize = 0;
-    while k < i {
-        let zero = integers::is_zero(number(n, ma, a, b, k, n + 1));
-        column += choose(zero, 0, 1);
-        k += 1;
-    }
-    column
+    let n = rows.problem.n;
+    n + (0..i).filter(|k| number(rows, *k, n + 1) != 0).count()
 }
 
-fn constants(n: usize, ma: usize, mb: usize, a: &[i64], b: &[i64]) -> [i64; 12]
-    requires { (n ≤ 12) × (ma + mb ≤ 12) }
-    ensures { result ≡ tabulate 12 (λ i. cond (ltb i (ma + mb)) ((rows_of n ma mb a.now b.now).const i) (pos 0)) }
+// The constants of the rows; 0 past the last row.
+fn constants(rows: &Rows) -> [i64; 12]
+    ensures { result ≡ tabulate 12 (λ i. cond (ltb i (rows.now.problem.ma + rows.now.problem.mb)) ((lent rows_of rows.now.problem).const i) (pos 0)) }
 {
-    let mut out: [i64; 12] = [0; 12];
-    let mut i: usize = 0;
-    while i < 12 {
-        out[i] = constant(n, ma, mb, a, b, i);
-        i += 1;
-    }
-    out
+    array::from_fn(|i| constant(rows, i))
 }
 
 // The constant of a row; 0 past the last row.
-fn constant(n: usize, ma: usize, mb: usize, a: &[i64], b: &[i64], i: usize) -> i64
-    requires { (n ≤ 12) × (ma + mb ≤ 12) }
-    ensures { result ≡ cond (ltb i (ma + mb)) ((rows_of n ma mb a.now b.now).const i) (pos 0) }
+fn constant(rows: &Rows, i: usize) -> i64
+    ensures { result ≡ cond (ltb i (rows.now.problem.ma + rows.now.problem.mb)) ((lent rows_of rows.now.problem).const i) (pos 0) }
 {
-    if i < ma + mb {
-        return number(n, ma, a, b, i, n);
+    if i < rows.problem.ma + rows.problem.mb {
+        number(rows, i, rows.problem.n)
+    } else {
+        0
     }
-    0
 }
 
 // The number in a column of row i, of A's rows and then B's.
-fn number(n: usize, ma: usize, a: &[i64], b: &[i64], i: usize, column: usize) -> i64
-    requires { (n ≤ 12) × (i ≤ 12) × (column ≤ 24) }
-    ensures { result ≡ cond (ltb i ma) (at a.now (i * (n + 2) + column)) (at b.now ((i - ma) * (n + 2) + column)) }
+fn number(rows: &Rows, i: usize, column: usize) -> i64
+    requires { (i < rows.now.problem.ma + rows.now.problem.mb) × (column < rows.now.problem.n + 2) }
+    ensures coefficient { column < rows.now.problem.n → result ≡ (lent rows_of rows.now.problem).coef i column }
+    ensures constant { column ≡ rows.now.problem.n → result ≡ (lent rows_of rows.now.problem).const i }
+    ensures modulus { column ≡ rows.now.problem.n + 1 → result ≡ (lent rows_of rows.now.problem).modulus i }
 {
-    if i < ma {
-        return integers::at(a, i * (n + 2) + column);
+    let a = rows.a();
+    if i < a.m {
+        a.number(i, column)
+    } else {
+        rows.b().number(i - a.m, column)
     }
-    integers::at(b, (i - ma) * (n + 2) + column)
 }

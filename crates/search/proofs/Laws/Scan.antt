@@ -1,20 +1,22 @@
 -- What the two columns are that a step takes, among the k columns from lo on.
 --
 --     Turns      least_none  least_more      at a loop's j = lo, and from j to j + 1
---                other_none  other_more
+--     Found      other_found     the first other column, as a chain finds it
 --     Least      Least, least_is     it is among them, unless there is none, and no nonzero one is of smaller magnitude
 --                least_zero          it is 0: it is the first of them
 --     Other      Other, other_is     it is a nonzero one of them, unless it is the first, and then all others are 0
 --
 -- Assumes nothing.
-use mathlib.Core.Path.{◌≡◌, refl, sym, ◌∙◌, ap, subst}
+use mathlib.Core.Path.{◌≡◌, refl, sym, ◌∙◌, ap, ap₂, subst}
 use mathlib.Core.Bool.{Bool, true, false, not, cond, ◌&&◌, true≢false, false≢true}
 use Prim.Native.Nat.{ℕ, zero, suc, ◌+◌, ◌-◌, ◌<◌, ◌≤◌}
 use native.Mathlib.Omega.{arith}
 use native.Mathlib.Decide.{ℕ_discrete}
-use borrow.Author.Tests.{eqb-true, eqb-false, ltb-true, ltb-false}
+use borrow.Author.Tests.{eqb-true, eqb-false, eq-eqb, ne_eqb, ltb-true, ltb-false}
 use lib.Dec.{eqb, ltb}
 use lib.IntN.{ℤ, pos, nat_abs}
+use Rattle.std.proofs.Common.{Option, None, Some, unwrap_or, option_map, find}
+use Rattle.std.specs.List.{range_with_len}
 use Rattle.integers.specs.Range.{is_zero}
 use Rattle.integers.proofs.Laws.Magnitude.{nat_abs_zero}
 use Rattle.search.specs.Step.{comes_before, better, least, otherwise, other}
@@ -32,16 +34,53 @@ least_more v lo j h =
     let b : lo + (j - lo) ≡ j = omega arith in
     sym (ap (least v lo) a ∙ ap (better v (least v lo (j - lo))) b)
 
-pub other_none : (v : ℕ → ℤ) (first lo : ℕ) → first ≡ other v first lo (lo - lo)
-unfolding other
-other_none v first lo = let e : lo - lo ≡ 0 = omega arith in ap (other v first lo) (sym e)
+-- the search goes on from a column that was found, or from the first itself
+scan : (ℕ → ℤ) → ℕ → ℕ → ℕ → ℕ → ℕ
+scan v first so_far r zero = so_far
+scan v first so_far r (suc n) = otherwise v first (scan v first so_far r n) (r + n)
 
-pub other_more : (v : ℕ → ℤ) (first lo j : ℕ) → lo ≤ j → otherwise v first (other v first lo (j - lo)) j ≡ other v first lo (j + 1 - lo)
-unfolding other
-other_more v first lo j h =
-    let a : j + 1 - lo ≡ suc (j - lo) = omega arith in
-    let b : lo + (j - lo) ≡ j = omega arith in
-    sym (ap (other v first lo) a ∙ ap (otherwise v first (other v first lo (j - lo))) b)
+module _ (v : ℕ → ℤ) (first : ℕ) where
+  scan_first : (so_far r n : ℕ) → scan v first so_far r (suc n) ≡ scan v first (otherwise v first so_far r) (r + 1) n
+  unfolding scan
+  scan_first so_far r zero = let e : r + 0 ≡ r = omega arith in ap (otherwise v first so_far) e
+  scan_first so_far r (suc n) = let e : r + suc n ≡ r + 1 + n = omega arith in ap₂ (otherwise v first) (scan_first so_far r n) e
+
+  scan_stays : (so_far r n : ℕ) → (so_far ≡ first → ⊥) → scan v first so_far r n ≡ so_far
+  unfolding scan otherwise
+  scan_stays so_far r zero h = refl
+  scan_stays so_far r (suc n) h =
+      ap (λ (k : ℕ). otherwise v first k (r + n)) (scan_stays so_far r n h) ∙ ap (λ (t : Bool). cond (t && not (is_zero (v (r + n)))) (r + n) so_far) (ne_eqb so_far first h)
+
+  other_scan : (r n : ℕ) → other v first r n ≡ scan v first first r n
+  unfolding scan other
+  other_scan r zero = refl
+  other_scan r (suc n) = ap (λ (k : ℕ). otherwise v first k (r + n)) (other_scan r n)
+
+  abbrev is_other : ℕ → Bool
+  is_other j = not (eqb j first) && not (is_zero (v j))
+
+  found : (r n : ℕ) → unwrap_or (find is_other (range_with_len r n)) first ≡ scan v first first r n
+  unfolding scan otherwise
+  found r zero = refl
+  found r (suc n) = go (eqb r first) (is_zero (v r)) refl refl (found (r + 1) n) ∙ sym (scan_first first r n)
+    where
+      chosen : (none : Bool) → is_zero (v r) ≡ none → otherwise v first first r ≡ cond (not none) r first
+      chosen none f = ap₂ (λ (s t : Bool). cond (s && not t) r first) (eq-eqb first first refl) f
+
+      go : (same none : Bool) → eqb r first ≡ same → is_zero (v r) ≡ none →
+          unwrap_or (find is_other (range_with_len (r + 1) n)) first ≡ scan v first first (r + 1) n →
+          unwrap_or (cond (not same && not none) (Some r) (find is_other (range_with_len (r + 1) n))) first ≡ scan v first (otherwise v first first r) (r + 1) n
+      go true true e f rest = rest ∙ ap (λ (k : ℕ). scan v first k (r + 1) n) (sym (chosen true f))
+      go true false e f rest = rest ∙ ap (λ (k : ℕ). scan v first k (r + 1) n) (sym (chosen false f ∙ eqb-true r first e))
+      go false true e f rest = rest ∙ ap (λ (k : ℕ). scan v first k (r + 1) n) (sym (chosen true f))
+      go false false e f rest = sym (ap (λ (k : ℕ). scan v first k (r + 1) n) (chosen false f) ∙ scan_stays r (r + 1) n (eqb-false r first e))
+
+  pub other_found : (r n : ℕ) (o : Option ℕ) → option_map (λ x. x) o ≡ find is_other (range_with_len r n) → unwrap_or o first ≡ other v first r n
+  other_found r n o e = go o e ∙ found r n ∙ sym (other_scan r n)
+    where
+      go : (o : Option ℕ) → option_map (λ x. x) o ≡ find is_other (range_with_len r n) → unwrap_or o first ≡ unwrap_or (find is_other (range_with_len r n)) first
+      go None e = ap (λ (o : Option ℕ). unwrap_or o first) e
+      go (Some x) e = ap (λ (o : Option ℕ). unwrap_or o first) e
 
 -- Least ----------------------------------------------------------------------------------------------------------------
 

@@ -2,7 +2,7 @@
 --
 --     Congruences    congruences_none  congruences_more     before row 0, and before the code's k + 1
 --                    congruences_few    at most one a row
---     Rows           modulus_is         what the code reads in column n + 1 is the modulus
+--                    congruences_range  those before row n, as a chain counts them
 --     Cells          upper_coef upper_modulus upper_zero             a row's cell, by its column
 --                    start_row start_one start_past start_off        the cell of a row, of the diagonal, past its end, off it
 --     Entered        from_none from_more         places filled from one on: none, and one more
@@ -17,7 +17,7 @@
 -- Assumes nothing.
 use mathlib.Core.Path.{◌≡◌, refl, sym, ◌∙◌, ap, ap₂, subst⁻¹}
 use mathlib.Core.Bool.{Bool, true, false, cond, ◌&&◌}
-use mathlib.Core.List.{List}
+use mathlib.Core.List.{List, ◌∷◌}
 use Prim.Native.Nat.{ℕ, zero, suc, ◌+◌, ◌*◌, ◌-◌, ◌<◌, ◌≤◌, ◌/◌, ◌%◌}
 use native.Mathlib.Numerals.{add-one}
 use native.Mathlib.Omega.{arith}
@@ -28,6 +28,8 @@ use lib.ListN.{set, length, length-set, replicate, length-replicate, get_or-repl
 use lib.Seq.{get_or-set_same, get_or-set_other}
 use lib.IntN.{ℤ, pos, nat_abs}
 use lib.Signed.{◌≤ℤ◌}
+use Rattle.std.proofs.Common.{not, filter}
+use Rattle.std.specs.List.{range_with_len}
 use Rattle.integers.specs.Range.{is_zero}
 use Rattle.integers.specs.Run.{at, tabulate}
 use Rattle.integers.proofs.Laws.Run.{at_end, tabulate-length, tabulate-at, tabulate_is, tabulate_zeros, filled, filled_length, filled_later, filled_at}
@@ -57,14 +59,24 @@ unfolding congruences
 congruences_few l zero = omega arith
 congruences_few l (suc k) = let h = congruences_few l k in let g = one (is_zero (l k)) in omega arith
 
--- Rows -----------------------------------------------------------------------------------------------------------------
+-- the congruences among the n rows from a on, as a chain counts them
+congruences_from : (l : ℕ → ℤ) (a n : ℕ) → congruences l a + length (filter (λ k. not (is_zero (l k))) (range_with_len a n)) ≡ congruences l (a + n)
+congruences_from l a zero = let e : a + 0 ≡ a = omega arith in ap (λ k. k + 0) (ap (congruences l) (sym e)) ∙ omega arith
+congruences_from l a (suc n) =
+    let e : a + 1 + n ≡ a + suc n = omega arith in
+    counted (is_zero (l a)) _ ∙ ap (λ k. k + length (filter (λ k. not (is_zero (l k))) (range_with_len (a + 1) n))) (sym (congruences_more l a)) ∙ congruences_from l (a + 1) n ∙ ap (congruences l) e
+  where
+    counted : (z : Bool) (rest : List ℕ) → congruences l a + length (cond (not z) (a ∷ rest) rest) ≡ congruences l a + cond z 0 1 + length rest
+    counted true rest = omega arith
+    counted false rest = omega arith
 
-module _ (n ma mb : ℕ) (a b : List ℤ) (i : ℕ) where
-  pub modulus_is : cond (ltb i ma) (at a (i * (n + 2) + (n + 1))) (at b ((i - ma) * (n + 2) + (n + 1))) ≡ (rows_of n ma mb a b).modulus i
-  modulus_is =
-      let x : i * (n + 2) + (n + 1) ≡ i * (n + 2) + n + 1 = omega arith in
-      let y : (i - ma) * (n + 2) + (n + 1) ≡ (i - ma) * (n + 2) + n + 1 = omega arith in
-      ap₂ (λ (p q : ℕ). cond (ltb i ma) (at a p) (at b q)) x y
+pub congruences_range : (l : ℕ → ℤ) (n : ℕ) → length (filter (λ k. not (is_zero (l k))) (range_with_len 0 n)) ≡ congruences l n
+congruences_range l n =
+    let e : 0 + n ≡ n = omega arith in
+    let f = congruences_from l 0 n in
+    let g = congruences_none l in
+    let h = ap (congruences l) e in
+    omega arith
 
 -- Cells ----------------------------------------------------------------------------------------------------------------
 

@@ -10,17 +10,17 @@ use Prim.Native.Nat.{ℕ, ◌+◌}
 use borrow.Author.Tests.{eq-eqb}
 use lib.ListN.{length}
 use lib.IntN.{ℤ}
+use Rattle.std.proofs.Common.{Option, None, Result, Ok}
 use Rattle.integers.specs.Run.{at, tabulate}
+use Rattle.problem.specs.declared.Refusal.{Refusal}
 use Rattle.problem.specs.Points.{Meets}
 use Rattle.problem.specs.Rows.{rows_of}
 use Rattle.problem.specs.WellFormed.{WellFormed}
 use Rattle.checker.specs.Promises.{Accepted}
 use Rattle.search.specs.State.{State, Outcome, Refuted, Solved, TooLarge}
 use Rattle.search.specs.Run.{is_unfinished}
-use Rattle.search.specs.Answer.{reply_of, is_refuted, is_solved, written_by, written_if, searched, search_refusal, search_reply}
+use Rattle.search.specs.Answer.{Answer, reply_of, is_refuted, is_solved, written_by, written_if, searched, search_refusal, search_reply}
 use Rattle.search.specs.Promises.{says_unfinished, Says, Demand}
-use Rattle.search.specs.declared.Reply.{Reply}
-use Rattle.search.specs.declared.Reply.TheVariants.{Answered}
 use Rattle.search.proofs.Laws.Run.{is-unfinished}
 use Rattle.search.proofs.Laws.Refusal.{well_formed_none, written_none}
 use Rattle.search.proofs.Theorems.Unfinished.{unfinished_is, unfinished_count, unfinished_writes}
@@ -34,20 +34,20 @@ module _ (n ma mb : ℕ) (a b vector point : List ℤ) (w : WellFormed n ma mb a
     abbrev final : State
     final = searched n ma mb a b budget
 
-    abbrev answer : Reply
+    abbrev answer : Result Answer Refusal
     answer = search_reply n ma mb a b budget vector point
 
-    taken : search_refusal n ma mb a b budget vector point ≡ 0
+    taken : search_refusal n ma mb a b budget vector point ≡ None
     taken = well_formed_none n ma mb a b _ w (ap₂ (λ (s t : Bool). s && t) (eq-eqb (length vector) (ma + mb) vector_long) (eq-eqb (length point) n point-long))
 
-    answered : answer ≡ reply_of 0 final
-    answered = ap (λ (k : ℕ). reply_of k final) taken
+    answered : answer ≡ reply_of None final
+    answered = ap (λ (k : Option Refusal). reply_of k final) taken
 
     says : (o : Outcome) → Says answer o → final.outcome ≡ o
-    says o h = subst (λ (r : Reply). Says r o) answered h
+    says o h = subst (λ (r : Result Answer Refusal). Says r o) answered h
 
     said : (o : Outcome) → final.outcome ≡ o → Says answer o
-    said o h = subst⁻¹ (λ (r : Reply). Says r o) answered h
+    said o h = subst⁻¹ (λ (r : Result Answer Refusal). Says r o) answered h
 
     unfinished_same : says_unfinished answer ≡ is_unfinished final.outcome
     unfinished_same = ap says_unfinished answered
@@ -65,7 +65,7 @@ module _ (n ma mb : ℕ) (a b vector point : List ℤ) (w : WellFormed n ma mb a
     counted = λ budget u.
         let o = (unfinished_is n ma mb a b budget vector point (taken budget)).0 u in
         answered budget
-        ∙ ap₂ (λ (k : ℕ) (o : Outcome). Answered (record { steps = k; outcome = o }))
+        ∙ ap₂ (λ (k : ℕ) (o : Outcome). Ok (record { steps = k; outcome = o }))
         (unfinished_count n ma mb a b budget vector point (taken budget) o)
         (is-unfinished (final budget).outcome (sym (unfinished_same budget) ∙ u));
     unwritten = λ budget u. unfinished_writes n ma mb a b budget vector point (taken budget) ((unfinished_is n ma mb a b budget vector point (taken budget)).0 u);

@@ -10,21 +10,24 @@ use Prim.Native.Nat.{ℕ, zero, suc, ◌+◌}
 use native.Mathlib.Omega.{arith}
 use lib.ListN.{length}
 use lib.IntN.{ℤ}
+use Rattle.std.proofs.Common.{Option, Some, None, Ok}
+use Rattle.problem.specs.declared.Refusal.{Refusal}
+use Rattle.problem.specs.Refusal.{number_of as number_of_refusal, number_or_none}
 use Rattle.search.specs.State.{State, Outcome, Unfinished, TooLarge, Refuted, Solved}
 use Rattle.search.specs.Answer.{reply_of, copy_of, searched, number_of, table_number, search_refusal, search_reply, table_refusal, table_reply}
 use Rattle.search.specs.Promises.{Exactly, Refuses, SearchSays, refused, too_large, no_refusal}
-use Rattle.search.specs.declared.Reply.TheVariants.{Answered}
+use Rattle.problem.proofs.Laws.Refusal.{number_none, some_number}
 use Rattle.search.proofs.Theorems.Refused.{search_refused_is, table_refused_is}
 use Rattle.search.proofs.Theorems.TooLarge.{too_large_is}
 
 -- the number of an answer after that many steps with that outcome
 abbrev number_after : ℕ → Outcome → ℕ
-number_after steps o = number_of (Answered (record { steps = steps; outcome = o }))
+number_after steps o = number_of (Ok (record { steps = steps; outcome = o }))
 
 -- a refusal tells its number
-copy_number : (k : ℕ) → table_number (copy_of k) ≡ k
-copy_number zero = refl
-copy_number (suc k) = refl
+copy_number : (k : Option Refusal) → table_number (copy_of k) ≡ number_or_none k
+copy_number None = refl
+copy_number (Some k) = refl
 
 module _ (n ma mb : ℕ) (a b : List ℤ) (budget : ℕ) where
   abbrev final : State
@@ -37,8 +40,8 @@ module _ (n ma mb : ℕ) (a b : List ℤ) (budget : ℕ) where
     abbrev Case : ℕ → Type 0
     Case k = SearchSays n ma mb a b budget Fit k
 
-    abbrev number : ℕ
-    number = search_refusal n ma mb a b budget vector point
+    abbrev refusal : Option Refusal
+    refusal = search_refusal n ma mb a b budget vector point
 
     -- the case, by the outcome of a search that is not refused
     outcome_says : Refuses n ma mb a b Fit 0 → (o : Outcome) → final.outcome ≡ o → Case (number_after final.steps o)
@@ -50,9 +53,13 @@ module _ (n ma mb : ℕ) (a b : List ℤ) (budget : ℕ) where
     outcome_says h (Refuted q) e = no_refusal h (λ l. let g : number_after 0 (Refuted q) ≡ number_after 0 TooLarge = ap (number_after 0) (sym e ∙ (too_large_is n ma mb a b budget).1 l) in omega arith)
     outcome_says h Solved e = no_refusal h (λ l. let g : number_after 0 Solved ≡ number_after 0 TooLarge = ap (number_after 0) (sym e ∙ (too_large_is n ma mb a b budget).1 l) in omega arith)
 
-    says : (k : ℕ) → number ≡ k → Case (number_of (reply_of k final))
-    says zero e = outcome_says ((search_refused_is n ma mb a b budget vector point 0).0 e) final.outcome refl
-    says (suc k) e = refused ((search_refused_is n ma mb a b budget vector point (suc k)).0 e)
+    refused_says : (k : ℕ) → (k ≡ 0 → ⊥) → Refuses n ma mb a b Fit k → Case k
+    refused_says zero some h = absurd (some refl)
+    refused_says (suc k) some h = refused h
+
+    says : (k : Option Refusal) → refusal ≡ k → Case (number_of (reply_of k final))
+    says None e = outcome_says ((search_refused_is n ma mb a b budget vector point 0).0 (ap number_or_none e)) final.outcome refl
+    says (Some k) e = refused_says (number_of_refusal k) (some_number k) ((search_refused_is n ma mb a b budget vector point (number_of_refusal k)).0 (ap number_or_none e))
 
     -- the number, by the case
     not_large : (o : Outcome) → (o ≡ TooLarge → ⊥) → number_after final.steps o ≡ 0
@@ -61,16 +68,20 @@ module _ (n ma mb : ℕ) (a b : List ℤ) (budget : ℕ) where
     not_large (Refuted q) h = refl
     not_large Solved h = refl
 
-    at_number : {k : ℕ} → Refuses n ma mb a b Fit k → number_of (search_reply n ma mb a b budget vector point) ≡ number_of (reply_of k final)
-    at_number {k} h = ap (λ (r : ℕ). number_of (reply_of r final)) ((search_refused_is n ma mb a b budget vector point k).1 h)
+    refused_number : (r : Option Refusal) (k : ℕ) → number_or_none r ≡ suc k → number_of (reply_of r final) ≡ suc k
+    refused_number None k e = absurd (omega arith)
+    refused_number (Some r) k e = e
+
+    answered : Refuses n ma mb a b Fit 0 → number_of (search_reply n ma mb a b budget vector point) ≡ number_of (reply_of None final)
+    answered h = ap (λ (r : Option Refusal). number_of (reply_of r final)) (number_none refusal ((search_refused_is n ma mb a b budget vector point 0).1 h))
 
     number_is : {k : ℕ} → Case k → number_of (search_reply n ma mb a b budget vector point) ≡ k
-    number_is (refused h) = at_number h
-    number_is (too_large h l) = at_number h ∙ ap (number_after final.steps) ((too_large_is n ma mb a b budget).1 l)
-    number_is (no_refusal h l) = at_number h ∙ not_large final.outcome (λ e. l ((too_large_is n ma mb a b budget).0 e))
+    number_is (refused {k} h) = refused_number refusal k ((search_refused_is n ma mb a b budget vector point (suc k)).1 h)
+    number_is (too_large h l) = answered h ∙ ap (number_after final.steps) ((too_large_is n ma mb a b budget).1 l)
+    number_is (no_refusal h l) = answered h ∙ not_large final.outcome (λ e. l ((too_large_is n ma mb a b budget).0 e))
 
     pub search_number_is : (k : ℕ) → Exactly (number_of (search_reply n ma mb a b budget vector point) ≡ k) (SearchSays n ma mb a b budget ((length vector ≡ ma + mb) × (length point ≡ n)) k)
-    search_number_is k = ((λ e. subst Case e (says number refl)), number_is)
+    search_number_is k = ((λ e. subst Case e (says refusal refl)), number_is)
 
   pub table_number_is : (cells : List ℤ) (k : ℕ) → Exactly (table_number (table_reply n ma mb a b budget cells) ≡ k) (Refuses n ma mb a b (length cells ≡ 864) k)
   table_number_is cells k =

@@ -9,9 +9,11 @@
 use mathlib.Core.Path.{◌≡◌, refl, sym, ◌∙◌, ap}
 use mathlib.Core.Bool.{Bool, true, false, true≢false, false≢true}
 use mathlib.Core.List.{List}
-use Prim.Native.Nat.{ℕ, zero, suc, ◌+◌, ◌≤◌}
+use Prim.Native.Nat.{ℕ, ◌+◌, ◌≤◌}
 use native.Mathlib.Omega.{arith}
 use lib.IntN.{ℤ}
+use Rattle.std.proofs.Common.{Option, Some, None}
+use Rattle.problem.specs.declared.Refusal.{Refusal}
 use Rattle.problem.specs.Rows.{rows_of}
 use Rattle.search.specs.State.{State, Outcome, Unfinished, TooLarge, Refuted, Solved, start}
 use Rattle.search.specs.Run.{is_unfinished, after}
@@ -29,7 +31,7 @@ outnumbered_is s budget = (there, λ o. o.each budget (omega arith))
         go b l true e = refl
         go b l false e = sym e ∙ ap (λ (x : State). is_unfinished x.outcome) (sym (after_stops s b budget l e)) ∙ u
 
-module _ (n ma mb : ℕ) (a b : List ℤ) (budget : ℕ) (vector point : List ℤ) (taken : search_refusal n ma mb a b budget vector point ≡ 0) where
+module _ (n ma mb : ℕ) (a b : List ℤ) (budget : ℕ) (vector point : List ℤ) (taken : search_refusal n ma mb a b budget vector point ≡ None) where
   abbrev first : State
   first = start n (rows_of n ma mb a b)
 
@@ -39,9 +41,9 @@ module _ (n ma mb : ℕ) (a b : List ℤ) (budget : ℕ) (vector point : List �
   said : says_unfinished (search_reply n ma mb a b budget vector point) ≡ is_unfinished final.outcome
   said = go (search_refusal n ma mb a b budget vector point) taken
     where
-      go : (k : ℕ) → k ≡ 0 → says_unfinished (reply_of k final) ≡ is_unfinished final.outcome
-      go zero e = refl
-      go (suc k) e = absurd (omega arith)
+      go : (k : Option Refusal) → k ≡ None → says_unfinished (reply_of k final) ≡ is_unfinished final.outcome
+      go None e = refl
+      go (Some k) e = cc
 
   pub unfinished_is : Exactly (says_unfinished (search_reply n ma mb a b budget vector point) ≡ true) (Outnumber first budget)
   unfinished_is = ((λ e. (outnumbered_is first budget).0 (sym said ∙ e)), (λ o. said ∙ (outnumbered_is first budget).1 o))
@@ -50,10 +52,10 @@ module _ (n ma mb : ℕ) (a b : List ℤ) (budget : ℕ) (vector point : List �
   unfolding start
   unfinished_count o = let e : 0 + budget ≡ budget = omega arith in after_count first budget ((outnumbered_is first budget).1 o) ∙ e
 
-  unwritten : (k : ℕ) (t : Bool) (numbers entry : List ℤ) → t ≡ false → written_if k t numbers entry ≡ entry
-  unwritten zero true numbers entry e = absurd (true≢false e)
-  unwritten zero false numbers entry e = refl
-  unwritten (suc k) t numbers entry e = refl
+  unwritten : (k : Option Refusal) (t : Bool) (numbers entry : List ℤ) → t ≡ false → written_if k t numbers entry ≡ entry
+  unwritten None true numbers entry e = absurd (true≢false e)
+  unwritten None false numbers entry e = refl
+  unwritten (Some k) t numbers entry e = refl
 
   no_vector : (o : Outcome) → is_unfinished o ≡ true → is_refuted o ≡ false
   no_vector Unfinished u = refl

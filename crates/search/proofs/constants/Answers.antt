@@ -1,31 +1,11 @@
-use mathlib.Core.Path.{◌∙◌, ap, ap₂}
-use mathlib.Core.Bool.{cond}
-use mathlib.Core.List.{List}
-use Prim.Native.Nat.{ℕ, ◌+◌}
-use native.Mathlib.Nat.{le_antisymm}
-use native.Mathlib.Omega.{arith}
-use lib.Dec.{ltb}
-use lib.ListN.{set, length-replicate}
-use lib.IntN.{ℤ, pos}
-use Rattle.integers.proofs.Laws.Bits.{stored_is}
-use Rattle.integers.proofs.Laws.Run.{filled, filled_none, filled_more, filled_all}
+use Rattle.std.proofs.Common.{ℕ, ◌+◌, cond, ltb, ℤ, pos, rules}
+use Rattle.problem.specs.Lent.{lent}
 use Rattle.problem.specs.Rows.{rows_of}
-use Rattle.search.proofs.constants.Invariants.{zeros}
+use Rattle.search.proofs.Laws.Made.{made_is}
 use Rattle.search.proofs.constants.Goals as goal
-use Rattle.search.proofs.constants.Goals.{Start}
-
-abbrev value : Start → ℕ → ℤ
-value s k = cond (ltb k (s.args.ma + s.args.mb)) ((rows_of s.args.n s.args.ma s.args.mb s.args.a.now s.args.b.now).const k) (pos 0)
-
-pub loop-i-init : goal.loop-i-init
-loop-i-init c = (omega arith, filled_none (value c) zeros)
-
-pub loop-i-preserved : goal.loop-i-preserved
-loop-i-preserved c =
-    let i = c.loop-i.i in
-    let v = stored_is (record { sfits = c.constant.type_inv }) ∙ c.constant.ensures in
-    (omega arith, ap₂ (λ (run : List ℤ) (x : ℤ). set run i x) c.loop-i.invariant.1 v ∙ filled_more i (value c.before.before.before) zeros)
 
 pub returns : goal.returns
 returns c =
-    c.loop-i.invariant.1 ∙ ap (λ (k : ℕ). filled k (value c.before.before) zeros) (le_antisymm c.loop-i.invariant.0 c.loop-i-test.false) ∙ filled_all 12 (value c.before.before) zeros (length-replicate 12 (pos 0))
+    let p = c.args.rows.now.problem in
+    let value : ℕ → ℤ = λ i. cond (ltb i (p.ma + p.mb)) ((lent rows_of p).const i) (pos 0) in
+    made_is _ _ _ value (λ i y q k. search rules) 12 c.from_fn.ensures.items

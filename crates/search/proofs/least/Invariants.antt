@@ -6,7 +6,4 @@ use Rattle.search.specs.Step.{least}
 use Rattle.search.proofs.least.Given as goal
 
 abbrev pub invariant-loop-j : goal.invariant-loop-j
-invariant-loop-j l = (l.lo ≤ l.j) × (l.j - l.lo ≤ l.hi - l.lo) × (l.best ≡ least (cell l.cells l.row) l.lo (l.j - l.lo))
-
-abbrev pub decreases-loop-j : goal.decreases-loop-j
-decreases-loop-j l = l.hi - l.j
+invariant-loop-j l = (l.j - l.lo ≤ l.hi - l.lo) × (l.best ≡ least (cell l.cells l.row) l.lo (l.j - l.lo))

@@ -1,45 +1,14 @@
-use mathlib.Core.Path.{◌≡◌, ◌∙◌, ap}
-use mathlib.Core.Bool.{Bool, cond}
-use Prim.Native.Nat.{ℕ, ◌+◌}
-use native.Mathlib.Omega.{arith}
-use lib.IntN.{ℤ}
+use Rattle.std.proofs.Common.{ℕ, ◌+◌, not, Bool, ◌∙◌, ap, arith, rules}
+use Rattle.std.proofs.lemmas.Iterator.{YieldsList-from_range}
+use Rattle.std.proofs.lemmas.Iterator.Consumers.{YieldsList-from_filter, count_from_yields_List}
 use Rattle.integers.specs.Range.{is_zero}
-use Rattle.integers.proofs.Laws.Bits.{stored_is}
+use Rattle.problem.specs.Lent.{lent}
 use Rattle.problem.specs.Rows.{rows_of}
-use Rattle.search.specs.State.{congruences}
-use Rattle.search.proofs.Laws.Start.{congruences_none, congruences_more, congruences_few, modulus_is}
+use Rattle.search.proofs.Laws.Start.{congruences_range}
 use Rattle.search.proofs.own_column.Goals as goal
-use Rattle.search.proofs.own_column.Goals.{After-choose-column, Start}
 
-abbrev modulus : Start → ℕ → ℤ
-modulus s = (rows_of s.args.n s.args.ma 0 s.args.a.now s.args.b.now).modulus
-
--- 1 for a congruence, else 0
-added : (c : After-choose-column) →
-    c.choose-column.result ≡ cond (is_zero (modulus c.before.before.before.before.before c.loop-k.k)) 0 1
-added c =
-    let a = c.args in
-    c.choose-column.ensures
-    ∙ ap (λ (t : Bool). cond t 0 1)
-    (c.is_zero-zero.ensures
-    ∙ ap is_zero (stored_is (record { sfits = c.number.type_inv }) ∙ c.number.ensures ∙ modulus_is a.n a.ma 0 a.a.now a.b.now c.loop-k.k))
-
-onward : (c : After-choose-column) →
-    c.loop-k.column + c.choose-column.result ≡ c.args.n + congruences (modulus c.before.before.before.before.before) (c.loop-k.k + 1)
-onward c =
-    let e = added c in
-    let h = c.loop-k.invariant.1 in
-    let g = congruences_more (modulus c.before.before.before.before.before) c.loop-k.k in
-    omega arith
-
-pub loop-k-init : goal.loop-k-init
-loop-k-init c = let e = congruences_none (modulus c) in (omega arith, omega arith)
-
-pub overflow_add-column : goal.overflow_add-column
-overflow_add-column c =
-    let e = onward c in
-    let h = congruences_few (modulus c.before.before.before.before.before) (c.loop-k.k + 1) in
-    omega arith
-
-pub loop-k-preserved : goal.loop-k-preserved
-loop-k-preserved c = (omega arith, onward c)
+pub returns : goal.returns
+returns c =
+    let p = c.args.rows.now.problem in
+    let test : ℕ → Bool = λ k. not (is_zero ((lent rows_of p).modulus k)) in
+    ap (λ (k : ℕ). p.n + k) (count_from_yields_List c.filter.result _ c.count.ensures.ran (YieldsList-from_filter _ test (YieldsList-from_range 0 c.args.i c.args.i c.filter.ensures.source (omega arith)) c.filter.ensures.closure (λ x b q k. search rules)) ∙ congruences_range (lent rows_of p).modulus c.args.i)

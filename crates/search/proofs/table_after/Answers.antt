@@ -1,21 +1,8 @@
-use mathlib.Core.Path.{◌≡◌, sym, ◌∙◌}
-use Prim.Native.Nat.{ℕ}
-use lib.Dec.{eqb}
-use lib.ListN.{length}
-use Rattle.search.specs.Answer.{refusal_of}
-use Rattle.search.proofs.Laws.Refusal.{none_well_formed}
+use Rattle.std.proofs.Common.{sym, arith}
+use Rattle.search.proofs.Laws.Refusal.{table_fits}
 use Rattle.search.proofs.table_after.Goals as goal
-use Rattle.search.proofs.table_after.Goals.{After-refusal-number, Else-number-ne0, Start}
 
--- the definitions at a call's arguments
-abbrev number : Start → ℕ
-number s = refusal_of s.args.n s.args.ma s.args.mb s.args.a.now s.args.b.now (eqb (length s.args.cells.now) 864)
-
-number_is : (c : After-refusal-number) → c.refusal-number.result ≡ number c.before
-number_is c = c.refusal-number.ensures
-
-none : (c : Else-number-ne0) → number c.before.before ≡ 0
-none c = sym (number_is c.before) ∙ c.if-number-ne0.false
-
-pub searched-s-requires : goal.searched-s-requires
-searched-s-requires c = none_well_formed c.args.n c.args.ma c.args.mb c.args.a.now c.args.b.now _ (none c)
+pub write-requires : goal.write-requires
+write-requires c =
+    let p = c.args.problem.now in
+    omega (arith, table_fits p.n p.ma p.mb p.a.now p.b.now c.args.cells.now (sym c.in_ok-rows.ensures.refusal))
