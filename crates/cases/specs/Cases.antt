@@ -2,7 +2,7 @@
 --
 --     Problem          as every call takes it
 --     Case             a problem with a vector for the checker, or with a budget for the search
---     Answers          what `judge` answers, and what the lent run then holds; or what `search` answers, and what its two lent runs
+--     Answers          what `judge` answers, the paper's number of that, and what the lent run then holds; or what `search` answers, and what its two lent runs
 --                      then hold
 --     answer_to        that of a case, by the definitions of the contracts; the lent runs hold 7s before
 --     cases            the paper's cases, in its order; case 5 also with A and B exchanged, case 7 with its four vectors, case 8 with
@@ -10,16 +10,16 @@
 --     expected         what the paper says of them
 --
 -- The variables x, y, z are places 0, 1, 2. That answer_to gives what is expected: proofs/ByHand.antt.
-use Rattle.std.specs.Prelude.{List, [], ◌∷◌, ℕ, ◌+◌, ℤ, pos, negsuc}
+use Rattle.std.specs.Prelude.{List, [], ◌∷◌, ℕ, ◌+◌, ℤ, pos, negsuc, Result, Ok, Err}
 use Rattle.integers.specs.Run.{tabulate}
-use Rattle.checker.specs.Answer.{judge_answer, judge_run}
-use Rattle.checker.specs.declared.Answer.{Answer}
-use Rattle.checker.specs.declared.Answer.TheVariants.{Fact as Stated, Refused}
+use Rattle.problem.specs.declared.Refusal.{Refusal}
+use Rattle.problem.specs.declared.Refusal.TheVariants.{SumNotDivided, ConstantsDivided}
+use Rattle.checker.specs.Answer.{answer_number, judge_answer, judge_run}
+use Rattle.checker.specs.declared.Fact.{Fact}
 use Rattle.search.specs.Answer.{search_reply, search_vector, search_point}
+use Rattle.search.specs.declared.Answer.{Answer}
 use Rattle.search.specs.declared.Outcome.{Outcome}
 use Rattle.search.specs.declared.Outcome.TheVariants.{Unfinished, TooLarge, Refuted}
-use Rattle.search.specs.declared.Reply.{Reply}
-use Rattle.search.specs.declared.Reply.TheVariants.{Answered}
 
 pub record Problem : Type 0 where
   pub n : ℕ
@@ -33,8 +33,8 @@ pub data Case : Type 0 where
   search : Problem → ℕ → Case
 
 pub data Answers : Type 0 where
-  judged : Answer → List ℤ → Answers
-  searched : Reply → List ℤ → List ℤ → Answers
+  judged : Result Fact Refusal → ℕ → List ℤ → Answers
+  searched : Result Answer Refusal → List ℤ → List ℤ → Answers
 
 -- a lent run
 abbrev pub lent : ℕ → List ℤ
@@ -44,6 +44,7 @@ unfoldable pub answer_to : Case → Answers
 answer_to (judge c q p) =
     judged
     (judge_answer c.n c.ma c.mb c.a c.b q p (lent c.n))
+    (answer_number (judge_answer c.n c.ma c.mb c.a c.b q p (lent c.n)))
     (judge_run c.n c.ma c.mb c.a c.b q p (lent c.n))
 answer_to (search c budget) =
     searched
@@ -111,14 +112,14 @@ cases =
     ∷ []
 
 abbrev pub fact : List ℤ → ℤ → ℤ → Answers
-fact coefficients constant modulus = judged (Stated constant modulus) coefficients
+fact coefficients constant modulus = judged (Ok (record { constant = constant; modulus = modulus })) 0 coefficients
 
 -- of a problem over three variables; the lent run is left as it was
-abbrev pub refused : ℕ → Answers
-refused k = judged (Refused k) (pos 7 ∷ pos 7 ∷ pos 7 ∷ [])
+abbrev pub refused : Refusal → ℕ → Answers
+refused refusal number = judged (Err refusal) number (pos 7 ∷ pos 7 ∷ pos 7 ∷ [])
 
 abbrev pub found : ℕ → Outcome → List ℤ → List ℤ → Answers
-found steps outcome vector point = searched (Answered (record { steps = steps; outcome = outcome })) vector point
+found steps outcome vector point = searched (Ok (record { steps = steps; outcome = outcome })) vector point
 
 abbrev pub expected : List Answers
 expected =
@@ -129,10 +130,10 @@ expected =
     ∷ fact (pos 0 ∷ []) (pos 1) (pos 0)
     ∷ fact (pos 0 ∷ []) (pos 0) (pos 0)
     ∷ fact (pos 1 ∷ []) (pos 0) (pos 0)
-    ∷ refused 6
-    ∷ refused 7
-    ∷ refused 7
-    ∷ refused 7
+    ∷ refused SumNotDivided 6
+    ∷ refused ConstantsDivided 7
+    ∷ refused ConstantsDivided 7
+    ∷ refused ConstantsDivided 7
     ∷ found 3 Unfinished (pos 7 ∷ pos 7 ∷ []) (pos 7 ∷ pos 7 ∷ pos 7 ∷ [])
     ∷ found 4 (Refuted (pos 2)) (negsuc 0 ∷ pos 1 ∷ []) (pos 7 ∷ pos 7 ∷ pos 7 ∷ [])
     ∷ found 4 (Refuted (pos 2)) (negsuc 0 ∷ pos 1 ∷ []) (pos 7 ∷ pos 7 ∷ pos 7 ∷ [])

@@ -5,179 +5,129 @@
 // its answer: S by variable over A's rows, then K and M, as the paper names them, and g, by which the normal form divides.
 #![tactic(auto)]
 
-use std::io;
+use checker::Fact;
+use problem::Problem;
+use search::Outcome;
+use std::{fmt, io};
 
-fn signed(rt: &impl Print, x: i64) -> io::Result<()> {
-    if integers::is_negative(x) {
-        rt.write_all(b"-")?;
-    }
-    rt.print(integers::magnitude(x))
+// A fact, as an equation or a congruence.
+#[derive(Clone, Copy)]
+struct Written<'a> {
+    coeffs: &'a [i64],
+    fact: Fact,
 }
 
-// What stands before a term.
-fn sign(rt: &impl Print, first: bool, negative: bool) -> io::Result<()> {
-    if first && negative {
-        rt.write_all(b"-")?;
+impl fmt::Display for Written<'_> {
+    fn fmt<W: fmt::Write>(&self, f: &mut fmt::Formatter<W>) -> fmt::Result {
+        let Fact { constant, modulus } = self.fact;
+        // A fact without terms is TRUE or FALSE in normal form; another would be written as it is.
+        match (self.coeffs.iter().all(|c| *c == 0), constant, modulus) {
+            (true, 0, 0) => return write!(f, "TRUE"),
+            (true, 1, 0) => return write!(f, "FALSE"),
+            (true, _, _) => write!(f, "0")?,
+            (false, _, _) => terms(f, self.coeffs)?,
+        }
+        write!(f, " = {constant}")?;
+        if modulus == 0 {
+            return Ok(());
+        }
+        write!(f, " (mod {modulus})")
     }
-    if !first && negative {
-        rt.write_all(b" - ")?;
-    }
-    if !first && !negative {
-        rt.write_all(b" + ")?;
-    }
-    Ok(())
 }
 
-fn factor(rt: &impl Print, c: u64) -> io::Result<()> {
-    if c != 1 {
-        rt.print(c)?;
-        rt.write_all(b"*")?;
-    }
-    Ok(())
-}
-
-// Writes c times the variable, unless c is 0. Answers whether the term after it is still the first.
-fn term(rt: &impl Print, first: bool, variable: usize, c: i64) -> io::Result<bool> {
-    if integers::is_zero(c) {
-        return Ok(first);
-    }
-    sign(rt, first, integers::is_negative(c))?;
-    factor(rt, integers::magnitude(c))?;
-    rt.write_all(b"x")?;
-    rt.print(variable as u64)?;
-    Ok(false)
-}
-
-// Writes the terms, and answers whether there are none.
-fn terms(rt: &impl Print, coeffs: &[i64]) -> io::Result<bool> {
+// The sum of the terms that are not 0.
+fn terms<W: fmt::Write>(f: &mut fmt::Formatter<W>, coeffs: &[i64]) -> fmt::Result {
     let mut first = true;
-    let mut j = 0;
-    while j < coeffs.len() {
-        let c = integers::at(coeffs, j);
-        j += 1;
-        first = term(rt, first, j, c)?;
-    }
-    Ok(first)
-}
-
-fn equals(rt: &impl Print, constant: i64, modulus: i64) -> io::Result<()> {
-    rt.write_all(b" = ")?;
-    signed(rt, constant)?;
-    if !integers::is_zero(modulus) {
-        rt.write_all(b" (mod ")?;
-        signed(rt, modulus)?;
-        rt.write_all(b")")?;
+    for (j, c) in coeffs.iter().enumerate() {
+        if *c == 0 {
+            continue;
+        }
+        match (first, *c < 0) {
+            (true, true) => write!(f, "-")?,
+            (true, false) => {}
+            (false, true) => write!(f, " - ")?,
+            (false, false) => write!(f, " + ")?,
+        }
+        match c.unsigned_abs() {
+            1 => write!(f, "x{}", j + 1)?,
+            size => write!(f, "{size}*x{}", j + 1)?,
+        }
+        first = false;
     }
     Ok(())
 }
 
-// A fact without terms is TRUE or FALSE in normal form; another would be written as it is.
-fn without_terms(rt: &impl Print, constant: i64, modulus: i64) -> io::Result<()> {
-    if modulus == 0 && constant == 0 {
-        rt.write_all(b"TRUE")
-    } else if modulus == 0 && constant == 1 {
-        rt.write_all(b"FALSE")
-    } else {
-        rt.write_all(b"0")?;
-        equals(rt, constant, modulus)
+// The numbers of a run, each after a space.
+#[derive(Clone, Copy)]
+struct Numbers<'a>(&'a [i64]);
+
+impl fmt::Display for Numbers<'_> {
+    fn fmt<W: fmt::Write>(&self, f: &mut fmt::Formatter<W>) -> fmt::Result {
+        for x in self.0 {
+            write!(f, " {x}")?;
+        }
+        Ok(())
     }
 }
 
-fn fact(rt: &impl Print, coeffs: &[i64], constant: i64, modulus: i64) -> io::Result<()> {
-    if terms(rt, coeffs)? {
-        without_terms(rt, constant, modulus)
-    } else {
-        equals(rt, constant, modulus)
-    }
-}
-
-fn refused(rt: &impl Print, number: u8) -> io::Result<()> {
-    rt.write_all(b"refused: ")?;
-    rt.print(number as u64)
+// n variables, mA and mB rows, and the numbers of the rows.
+fn problem<'a>(n: usize, ma: usize, mb: usize, a: &'a [i64], b: &'a [i64]) -> Problem<'a> {
+    Problem { n, ma, mb, a, b }
 }
 
 // A line with the fact, or the refusal.
 fn line(
     rt: &impl Print,
-    name: &[u8],
-    n: usize,
-    ma: usize,
-    mb: usize,
-    a: &[i64],
-    b: &[i64],
+    name: &str,
+    problem: &Problem,
     q: i64,
     p: &[i64],
     coeffs: &mut [i64],
 ) -> io::Result<()> {
-    rt.write_all(name)?;
-    rt.write_all(b": ")?;
-    let given = checker::judge(n, ma, mb, a, b, q, p, coeffs);
-    match given {
-        checker::Answer::Fact(constant, modulus) => {
-            fact(rt, coeffs, constant, modulus)?;
-        }
-        checker::Answer::Refused(number) => {
-            refused(rt, number)?;
-        }
+    match checker::judge(problem, q, p, coeffs) {
+        Ok(fact) => println!(rt; "{name}: {}", Written { coeffs, fact }),
+        Err(refusal) => println!(rt; "{name}: refused: {}", refusal.number()),
     }
-    rt.write_all(b"\n")
-}
-
-fn spaced(rt: &impl Print, x: i64) -> io::Result<()> {
-    rt.write_all(b" ")?;
-    signed(rt, x)
-}
-
-fn numbers(rt: &impl Print, run: &[i64]) -> io::Result<()> {
-    let mut j = 0;
-    while j < run.len() {
-        spaced(rt, integers::at(run, j))?;
-        j += 1;
-    }
-    Ok(())
 }
 
 // A line with what a run holds.
-fn holds(rt: &impl Print, name: &[u8], run: &[i64]) -> io::Result<()> {
-    rt.write_all(name)?;
-    rt.write_all(b":")?;
-    numbers(rt, run)?;
-    rt.write_all(b"\n")
+fn holds(rt: &impl Print, name: &str, run: &[i64]) -> io::Result<()> {
+    println!(rt; "{name}:{}", Numbers(run))
 }
 
 // The system of example 3, divided as in examples 5 and 7: A x - 2y = 0; B x - 2z = 1.
-fn parity(rt: &impl Print, name: &[u8], q: i64, p: &[i64]) -> io::Result<()> {
+fn parity(rt: &impl Print, name: &str, q: i64, p: &[i64]) -> io::Result<()> {
     let a = [1, -2, 0, 0, 0];
     let b = [1, 0, -2, 1, 0];
     let mut f = [7, 7, 7];
-    line(rt, name, 3, 1, 1, &a, &b, q, p, &mut f)
+    line(rt, name, &problem(3, 1, 1, &a, &b), q, p, &mut f)
 }
 
 // Other rows of three variables, one on each side, with the vector of example 3.
-fn halved(rt: &impl Print, name: &[u8], a: &[i64], b: &[i64]) -> io::Result<()> {
+fn halved(rt: &impl Print, name: &str, a: &[i64], b: &[i64]) -> io::Result<()> {
     let p = [1, 1];
     let mut f = [7, 7, 7];
-    line(rt, name, 3, 1, 1, a, b, 2, &p, &mut f)
+    line(rt, name, &problem(3, 1, 1, a, b), 2, &p, &mut f)
 }
 
 // The paper's case 6: A x = 0; B x = 1.
-fn zero_or_one(rt: &impl Print, name: &[u8], q: i64, p: &[i64]) -> io::Result<()> {
+fn zero_or_one(rt: &impl Print, name: &str, q: i64, p: &[i64]) -> io::Result<()> {
     let a = [1, 0, 0];
     let b = [1, 1, 0];
     let mut f = [7];
-    line(rt, name, 1, 1, 1, &a, &b, q, p, &mut f)
+    line(rt, name, &problem(1, 1, 1, &a, &b), q, p, &mut f)
 }
 
 // A row of one variable on each side.
-fn single(rt: &impl Print, name: &[u8], a: &[i64], b: &[i64], q: i64, p: &[i64]) -> io::Result<()> {
+fn single(rt: &impl Print, name: &str, a: &[i64], b: &[i64], q: i64, p: &[i64]) -> io::Result<()> {
     let mut f = [7];
-    line(rt, name, 1, 1, 1, a, b, q, p, &mut f)
+    line(rt, name, &problem(1, 1, 1, a, b), q, p, &mut f)
 }
 
 // Rows of two variables, with the denominator 2.
 fn divided(
     rt: &impl Print,
-    name: &[u8],
+    name: &str,
     ma: usize,
     mb: usize,
     a: &[i64],
@@ -185,7 +135,7 @@ fn divided(
     p: &[i64],
 ) -> io::Result<()> {
     let mut f = [7, 7];
-    line(rt, name, 2, ma, mb, a, b, 2, p, &mut f)
+    line(rt, name, &problem(2, ma, mb, a, b), 2, p, &mut f)
 }
 
 // Example 1, that x ≡ 0 (mod 1) for every x: A x ≡ 0 (mod 1); B 2x = 1.
@@ -194,7 +144,7 @@ fn every_integer(rt: &impl Print) -> io::Result<()> {
     let b = [2, 1, 0];
     let p = [2, 1];
     // Modulo 1 nothing occurs, so x is not shared. x: 2, K = 0, M = 2: 0 ≡ 0 (mod 2), and by g = 2 the modulus is 1.
-    single(rt, b"example 1", &a, &b, 2, &p)
+    single(rt, "example 1", &a, &b, 2, &p)
 }
 
 // The system of example 2, divided as in example 6: A x + y = 1, x - y = 1; B 2y + 2z = 3; R = [1/2, -1/2, 1/2].
@@ -204,17 +154,20 @@ fn partial_interpolant(rt: &impl Print) -> io::Result<()> {
     let mut f = [7, 7, 7];
     let p = [1, -1, 1];
     // x: 1 - 1 = 0, y: 1 + 1 = 2, K = 1 - 1 = 0. Only x is A-local, so M = 0: 2y = 0, by g = 2.
-    line(rt, b"examples 2, 6", 3, 2, 1, &a, &b, 2, &p, &mut f)?;
+    line(
+        rt,
+        "examples 2, 6",
+        &problem(3, 2, 1, &a, &b),
+        2,
+        &p,
+        &mut f,
+    )?;
     let turned = [1, 1, -1];
     // y: 2, z: 2, K = 3. z is A-local, so M = 2: 2y ≡ 3 (mod 2), and g = 2 does not divide 3.
     line(
         rt,
-        b"example 6, exchanged",
-        3,
-        1,
-        2,
-        &b,
-        &a,
+        "example 6, exchanged",
+        &problem(3, 1, 2, &b, &a),
         2,
         &turned,
         &mut f,
@@ -224,17 +177,17 @@ fn partial_interpolant(rt: &impl Print) -> io::Result<()> {
 fn even_and_odd(rt: &impl Print) -> io::Result<()> {
     let half = [1, 1];
     // x: 1, y: -2, K = 0. y is A-local, so M = 2.
-    parity(rt, b"examples 3, 5, 7", 2, &half)?;
+    parity(rt, "examples 3, 5, 7", 2, &half)?;
     let a = [1, 0, -2, 1, 0];
     let b = [1, -2, 0, 0, 0];
     // x: 1, z: -2, K = 1. z is A-local, so M = 2.
-    halved(rt, b"example 5, exchanged", &a, &b)?;
+    halved(rt, "example 5, exchanged", &a, &b)?;
     let second = [-1, 1];
     // The second row of the inverse. x: -1, y: 2, K = 0, M = 2: -x ≡ 0 (mod 2), and -1 ≡ 1.
-    parity(rt, b"example 10", 2, &second)?;
+    parity(rt, "example 10", 2, &second)?;
     let first = [1, 0];
     // Its first row is no proof: q = 1 divides the sum, 0.
-    parity(rt, b"example 10, first row", 1, &first)
+    parity(rt, "example 10, first row", 1, &first)
 }
 
 // Example 4, the combination x - y - z = 1/2 of both rows of example 3: A has both.
@@ -244,7 +197,7 @@ fn both_rows(rt: &impl Print) -> io::Result<()> {
     let p = [1, 1];
     let mut f = [7, 7, 7];
     // x: 2, y: -2, z: -2, K = 1. All are A-local, so M = 2, which does not divide 1.
-    line(rt, b"example 4", 3, 2, 0, &a, &b, 2, &p, &mut f)
+    line(rt, "example 4", &problem(3, 2, 0, &a, &b), 2, &p, &mut f)
 }
 
 // The system of example 8, divided as in example 9, all modulo 8: A 2x + 2y ≡ 4, 2x + y ≡ 4; B 4x ≡ 4; R = [1/4, -1/2, -1/8].
@@ -255,17 +208,20 @@ fn one_modulus(rt: &impl Print) -> io::Result<()> {
     let p = [2, -4, -1];
     // x: 4 - 8 = -4, y: 4 - 4 = 0, K = 8 - 16 = -8, M = gcd(0, 16, 32) = 16: -x ≡ -2 (mod 4), by g = 4, and -1 ≡ 3.
     // The article writes x ≡ 2 (mod 4), the same times 3. Its fact for β = 1, x ≡ 0 (mod 2), is no answer of this checker.
-    line(rt, b"examples 8, 9", 2, 2, 1, &a, &b, 8, &p, &mut f)?;
+    line(
+        rt,
+        "examples 8, 9",
+        &problem(2, 2, 1, &a, &b),
+        8,
+        &p,
+        &mut f,
+    )?;
     let turned = [-1, 2, -4];
     // x: -4, K = -4, M = 8: -x ≡ -1 (mod 2), by g = 4.
     line(
         rt,
-        b"example 9, exchanged",
-        2,
-        1,
-        2,
-        &b,
-        &a,
+        "example 9, exchanged",
+        &problem(2, 1, 2, &b, &a),
         8,
         &turned,
         &mut f,
@@ -279,7 +235,14 @@ fn contradiction(rt: &impl Print) -> io::Result<()> {
     let p = [2, -4, -1];
     let mut f = [7, 7];
     // x: -8, y: 0, K = -12, M = gcd(8, 0, 16, 32, 8) = 8, which does not divide 12.
-    line(rt, b"example 8, all in A", 2, 3, 0, &a, &b, 8, &p, &mut f)
+    line(
+        rt,
+        "example 8, all in A",
+        &problem(2, 3, 0, &a, &b),
+        8,
+        &p,
+        &mut f,
+    )
 }
 
 // The system F of section 4.2: x ≡ 1 (mod 2), x + y ≡ 2 (mod 4), 2x + y ≡ 4 (mod 8).
@@ -288,18 +251,18 @@ fn different_moduli(rt: &impl Print) -> io::Result<()> {
     let first_two = [1, 0, 1, 2, 1, 1, 2, 4];
     let last = [2, 1, 4, 8];
     // x: 1 + 1 = 2, y: 1, K = 1 + 2 = 3, M = gcd(2, 4) = 2: 2x + y ≡ 3 (mod 2).
-    divided(rt, b"section 4.2", 2, 1, &first_two, &last, &p)?;
+    divided(rt, "section 4.2", 2, 1, &first_two, &last, &p)?;
     let first = [1, 0, 1, 2];
     let last_two = [1, 1, 2, 4, 2, 1, 4, 8];
     // x: 1, K = 1, M = 2.
-    divided(rt, b"section 4.2, row 1 in A", 1, 2, &first, &last_two, &p)?;
+    divided(rt, "section 4.2, row 1 in A", 1, 2, &first, &last_two, &p)?;
     let outer = [1, 0, 1, 2, 2, 1, 4, 8];
     let inner = [1, 1, 2, 4];
     let moved = [1, -1, 1];
     // x: 1 - 2 = -1, y: -1, K = 1 - 4 = -3, M = gcd(2, 8) = 2: -x - y ≡ -3 (mod 2).
     divided(
         rt,
-        b"section 4.2, rows 1, 3 in A",
+        "section 4.2, rows 1, 3 in A",
         2,
         1,
         &outer,
@@ -315,7 +278,14 @@ fn one_common_modulus(rt: &impl Print) -> io::Result<()> {
     let p = [1, 2, -4];
     let mut f = [7, 7];
     // x: 4 + 4 = 8, y: 4, K = 4 + 8 = 12, M = gcd(8, 16) = 8: 2x + y ≡ 3 (mod 2), by g = 4.
-    line(rt, b"section 4.2, F'", 2, 2, 1, &a, &b, 8, &p, &mut f)
+    line(
+        rt,
+        "section 4.2, F'",
+        &problem(2, 2, 1, &a, &b),
+        8,
+        &p,
+        &mut f,
+    )
 }
 
 // Where the article leaves a choice.
@@ -323,12 +293,12 @@ fn choices(rt: &impl Print) -> io::Result<()> {
     let multiple = [1, -4, 0, 0, 0];
     let odd = [1, 0, -2, 1, 0];
     // Theorem 2 allows the moduli 2 and 4, and the largest is taken. x: 1, y: -4, K = 0, M = 4.
-    halved(rt, b"theorem 2, largest modulus", &multiple, &odd)?;
+    halved(rt, "theorem 2, largest modulus", &multiple, &odd)?;
     let a = [1, 0, 8];
     let b = [2, 1, 8];
     let p = [0, 4];
     // Theorem 4 with no row of A used, its 0 ≡ 0 (mod 8). x: 0, K = 0, M = 0.
-    single(rt, b"theorem 4, trivial", &a, &b, 8, &p)
+    single(rt, "theorem 4, trivial", &a, &b, 8, &p)
 }
 
 // Variables that only seem to occur in a congruence, since its modulus divides their coefficient.
@@ -336,19 +306,15 @@ fn seeming(rt: &impl Print) -> io::Result<()> {
     let even = [1, -2, 0, 0, 0];
     let sum = [1, 2, 0, 1, 2];
     // Modulo 2, y does not occur in x + 2y, so y is A-local. x: 1, y: -2, K = 0, M = 2.
-    halved(rt, b"2*x2 in B, modulo 2", &even, &sum)?;
+    halved(rt, "2*x2 in B, modulo 2", &even, &sum)?;
     let b = [1, 0, -2, 1, 0, 0, 1, 0, 0, 1];
     let half = [1, 1, 0];
     let mut f = [7, 7, 7];
     // Modulo 1, y does not occur in y ≡ 0, which has no weight here. x: 1, y: -2, K = 0, M = 2.
     line(
         rt,
-        b"x2 in B, modulo 1",
-        3,
-        1,
-        2,
-        &even,
-        &b,
+        "x2 in B, modulo 1",
+        &problem(3, 1, 2, &even, &b),
         2,
         &half,
         &mut f,
@@ -362,17 +328,20 @@ fn seeming_modulo_eight(rt: &impl Print) -> io::Result<()> {
     let p = [4, 1];
     let mut f = [7, 7];
     // x: -8, y: 4, K = 4. x is A-local, so M = 8: y ≡ 1 (mod 2), by g = 4.
-    line(rt, b"8*x1 in B, modulo 8", 2, 1, 1, &a, &b, 8, &p, &mut f)?;
+    line(
+        rt,
+        "8*x1 in B, modulo 8",
+        &problem(2, 1, 1, &a, &b),
+        8,
+        &p,
+        &mut f,
+    )?;
     let turned = [1, 4];
     // x: 8, y: -4, K = 0, M = 8. x does not occur in A, so it is not shared: -y ≡ 0 (mod 2), by g = 4.
     line(
         rt,
-        b"8*x1 in A, modulo 8",
-        2,
-        1,
-        1,
-        &b,
-        &a,
+        "8*x1 in A, modulo 8",
+        &problem(2, 1, 1, &b, &a),
         8,
         &turned,
         &mut f,
@@ -384,15 +353,15 @@ fn equations(rt: &impl Print) -> io::Result<()> {
     let a = [-2, 4, 0, 6, 0];
     let b = [2, -4, 0, 7, 0];
     // x: -2, y: 4, K = 6, M = 0: -x + 2y = 3, by g = 2, and the first coefficient is made positive.
-    halved(rt, b"first coefficient positive", &a, &b)?;
+    halved(rt, "first coefficient positive", &a, &b)?;
     let two = [2, 1, 0];
     let five = [1, 5, 0];
     let first = [1, 0];
     // x: 2, K = 1, M = 0, and g = 2 does not divide 1.
-    single(rt, b"equation without a point", &two, &five, 2, &first)?;
+    single(rt, "equation without a point", &two, &five, 2, &first)?;
     let none = [0, 1, 0];
     // x: 0, K = 1, M = 0, g = 0.
-    single(rt, b"equation without a variable", &none, &five, 2, &first)
+    single(rt, "equation without a variable", &none, &five, 2, &first)
 }
 
 // The paper's case 5, A 2x = 1 and B empty, and its exchange; and case 6.
@@ -402,23 +371,19 @@ fn empty_sides(rt: &impl Print) -> io::Result<()> {
     let p = [1];
     let mut f = [7];
     // x: 2, K = 1. x is A-local, so M = 2, which does not divide 1.
-    line(rt, b"case 5", 1, 1, 0, &row, &empty, 2, &p, &mut f)?;
+    line(rt, "case 5", &problem(1, 1, 0, &row, &empty), 2, &p, &mut f)?;
     // No rows: K = 0, M = 0.
     line(
         rt,
-        b"case 5, exchanged",
-        1,
-        0,
-        1,
-        &empty,
-        &row,
+        "case 5, exchanged",
+        &problem(1, 0, 1, &empty, &row),
         2,
         &p,
         &mut f,
     )?;
     let opposite = [1, -1];
     // x: 1, K = 0, M = 0.
-    zero_or_one(rt, b"case 6", 2, &opposite)
+    zero_or_one(rt, "case 6", 2, &opposite)
 }
 
 // Numbers at the ends of their ranges.
@@ -430,12 +395,8 @@ fn ends(rt: &impl Print) -> io::Result<()> {
     // x: 1, y: -1000000, K = 0, M = 1000000.
     line(
         rt,
-        b"end of coefficients",
-        3,
-        1,
-        1,
-        &a,
-        &b,
+        "end of coefficients",
+        &problem(3, 1, 1, &a, &b),
         1000000,
         &p,
         &mut f,
@@ -444,11 +405,11 @@ fn ends(rt: &impl Print) -> io::Result<()> {
     let largest = [1, 1000000, 0];
     let widest = [1000000, -1000000];
     // x: 10^6, K = -10^12, M = 0: x = -10^6, by g = 10^6. q = 3 does not divide the sum -2 x 10^12.
-    single(rt, b"end of constants", &least, &largest, 3, &widest)?;
+    single(rt, "end of constants", &least, &largest, 3, &widest)?;
     let before = [1, -1, 1000000];
     let zero = [1, 0, 1000000];
     // x: 1, K = -1, M = 1000000.
-    single(rt, b"end of moduli", &before, &zero, 1000000, &p)
+    single(rt, "end of moduli", &before, &zero, 1000000, &p)
 }
 
 // Numbers that need more than 32 bits: A x + 1000000y = 1000000, -x + 999999y = -1000000; B x = 1.
@@ -458,7 +419,7 @@ fn large(rt: &impl Print) -> io::Result<()> {
     let p = [999999, 1000000, 1];
     let mut f = [7, 7];
     // x: -1, y: 999999000000 twice, K = 999999000000 - 1000000000000 = -1000000, M = 1999998000000: -x ≡ -1000000 (mod M).
-    line(rt, b"large", 2, 2, 1, &a, &b, 2, &p, &mut f)
+    line(rt, "large", &problem(2, 2, 1, &a, &b), 2, &p, &mut f)
 }
 
 // Twelve variables, and twelve rows.
@@ -468,14 +429,26 @@ fn most(rt: &impl Print) -> io::Result<()> {
     let b = [0, -2, 0, 0, 0, 0, 0, 0, 0, 0, 0, 1, 1, 0];
     let p = [1, 1];
     // x12: 1, x1: -2, K = 0. x1 is A-local, so M = 2.
-    line(rt, b"12 variables", 12, 1, 1, &a, &b, 2, &p, &mut f)?;
+    line(
+        rt,
+        "12 variables",
+        &problem(12, 1, 1, &a, &b),
+        2,
+        &p,
+        &mut f,
+    )?;
     let first = [2, 1, 0];
     let others = [0; 33];
     let chosen = [1, 0, 0, 0, 0, 0, 0, 0, 0, 0, 0, 0];
     let mut g = [7];
     // x: 2, K = 1. x is A-local, so M = 2, which does not divide 1.
     line(
-        rt, b"12 rows", 1, 1, 11, &first, &others, 2, &chosen, &mut g,
+        rt,
+        "12 rows",
+        &problem(1, 1, 11, &first, &others),
+        2,
+        &chosen,
+        &mut g,
     )
 }
 
@@ -487,13 +460,34 @@ fn counts(rt: &impl Print) -> io::Result<()> {
     let zero = [0, 0];
     let one = [1, 0];
     let half = [1, 1];
-    line(rt, b"n is 0", 0, 1, 1, &zero, &one, 2, &half, &mut nothing)?;
+    line(
+        rt,
+        "n is 0",
+        &problem(0, 1, 1, &zero, &one),
+        2,
+        &half,
+        &mut nothing,
+    )?;
     let mut f = [7];
-    line(rt, b"no rows", 1, 0, 0, &empty, &empty, 2, &empty, &mut f)?;
+    line(
+        rt,
+        "no rows",
+        &problem(1, 0, 0, &empty, &empty),
+        2,
+        &empty,
+        &mut f,
+    )?;
     let row = [0, 1, 0];
     let twelve = [0; 36];
     let first = [1, 0, 0, 0, 0, 0, 0, 0, 0, 0, 0, 0, 0];
-    line(rt, b"13 rows", 1, 1, 12, &row, &twelve, 2, &first, &mut f)
+    line(
+        rt,
+        "13 rows",
+        &problem(1, 1, 12, &row, &twelve),
+        2,
+        &first,
+        &mut f,
+    )
 }
 
 fn thirteen_variables(rt: &impl Print) -> io::Result<()> {
@@ -501,7 +495,7 @@ fn thirteen_variables(rt: &impl Print) -> io::Result<()> {
     let b = [1, 0, 0, 0, 0, 0, 0, 0, 0, 0, 0, 0, 0, 1, 0];
     let p = [1, 1];
     let mut f = [7, 7, 7, 7, 7, 7, 7, 7, 7, 7, 7, 7, 7];
-    line(rt, b"n is 13", 13, 1, 1, &a, &b, 2, &p, &mut f)
+    line(rt, "n is 13", &problem(13, 1, 1, &a, &b), 2, &p, &mut f)
 }
 
 // Refusal 1 by counts whose sums and products are small modulo 2^64.
@@ -512,13 +506,27 @@ fn wrapped_counts(rt: &impl Print) -> io::Result<()> {
     let mut f = [7];
     let n: usize = 18446744073709551615;
     // 2^64 - 1 variables: a row has 1 number.
-    line(rt, b"n + 2 wraps", n, 1, 0, &zero, &empty, 2, &p, &mut f)?;
+    line(
+        rt,
+        "n + 2 wraps",
+        &problem(n, 1, 0, &zero, &empty),
+        2,
+        &p,
+        &mut f,
+    )?;
     let row = [0, 0, 1, 0];
     let mut g = [7, 7];
     let ma: usize = 13835058055282163712;
     let mb: usize = 4611686018427387905;
     // 3 x 2^62 and 2^62 + 1 rows: together 1, of 0 and 4 numbers.
-    line(rt, b"rows wrap", 2, ma, mb, &empty, &row, 2, &p, &mut g)
+    line(
+        rt,
+        "rows wrap",
+        &problem(2, ma, mb, &empty, &row),
+        2,
+        &p,
+        &mut g,
+    )
 }
 
 // Refusal 1 by a side's length.
@@ -527,8 +535,8 @@ fn lengths(rt: &impl Print) -> io::Result<()> {
     let b = [1, 0, -2, 1, 0];
     let short = [1, -2, 0, 0];
     let long = [1, 0, -2, 1, 0, 0];
-    halved(rt, b"A one number short", &short, &b)?;
-    halved(rt, b"B one number long", &a, &long)
+    halved(rt, "A one number short", &short, &b)?;
+    halved(rt, "B one number long", &a, &long)
 }
 
 // Refusal 2, and what a refusal leaves in the run.
@@ -539,35 +547,34 @@ fn result_runs(rt: &impl Print) -> io::Result<()> {
     let mut short = [7, -8];
     line(
         rt,
-        b"run one number short",
-        3,
-        1,
-        1,
-        &a,
-        &b,
+        "run one number short",
+        &problem(3, 1, 1, &a, &b),
         2,
         &p,
         &mut short,
     )?;
-    holds(rt, b"run after it", &short)?;
+    holds(rt, "run after it", &short)?;
     let mut long = [7, -8, 9, 10];
     line(
         rt,
-        b"run one number long",
-        3,
-        1,
-        1,
-        &a,
-        &b,
+        "run one number long",
+        &problem(3, 1, 1, &a, &b),
         2,
         &p,
         &mut long,
     )?;
-    holds(rt, b"run after it", &long)?;
+    holds(rt, "run after it", &long)?;
     let twice = [2, 2];
     let mut f = [7, -8, 9];
-    line(rt, b"run at refusal 7", 3, 1, 1, &a, &b, 2, &twice, &mut f)?;
-    holds(rt, b"run after it", &f)
+    line(
+        rt,
+        "run at refusal 7",
+        &problem(3, 1, 1, &a, &b),
+        2,
+        &twice,
+        &mut f,
+    )?;
+    holds(rt, "run after it", &f)
 }
 
 // Refusal 3. The sums are even and the constants' sum is odd, so the vector is right.
@@ -575,61 +582,61 @@ fn ranges(rt: &impl Print) -> io::Result<()> {
     let a = [1, -2, 0, 0, 0];
     let b = [1, 0, -2, 1, 0];
     let coefficient = [1, -1000002, 0, 0, 0];
-    halved(rt, b"coefficient too small", &coefficient, &b)?;
+    halved(rt, "coefficient too small", &coefficient, &b)?;
     let least = [1, -9223372036854775808, 0, 0, 0];
-    halved(rt, b"least coefficient", &least, &b)?;
+    halved(rt, "least coefficient", &least, &b)?;
     let constant = [1, 0, -2, 1000001, 0];
-    halved(rt, b"constant too large", &a, &constant)?;
+    halved(rt, "constant too large", &a, &constant)?;
     let negative = [1, -2, 0, 0, -2];
-    halved(rt, b"modulus negative", &negative, &b)?;
+    halved(rt, "modulus negative", &negative, &b)?;
     let modulus = [1, 0, -2, 1, 1000002];
-    halved(rt, b"modulus too large", &a, &modulus)
+    halved(rt, "modulus too large", &a, &modulus)
 }
 
 // Refusal 4. The sum of the coefficients is 0, and that of the constants -1, which no number but 1 and -1 divides.
 fn denominators(rt: &impl Print) -> io::Result<()> {
     let opposite = [1, -1];
-    zero_or_one(rt, b"q is 0", 0, &opposite)?;
-    zero_or_one(rt, b"q is negative", -2, &opposite)?;
-    zero_or_one(rt, b"q too large", 1000001, &opposite)?;
+    zero_or_one(rt, "q is 0", 0, &opposite)?;
+    zero_or_one(rt, "q is negative", -2, &opposite)?;
+    zero_or_one(rt, "q too large", 1000001, &opposite)?;
     let long = [1, -1, 0];
-    zero_or_one(rt, b"vector one number long", 2, &long)?;
+    zero_or_one(rt, "vector one number long", 2, &long)?;
     let short = [1];
-    zero_or_one(rt, b"vector one number short", 2, &short)
+    zero_or_one(rt, "vector one number short", 2, &short)
 }
 
 // Refusal 5. The sum of the coefficients is even, and that of the constants odd.
 fn numerators(rt: &impl Print) -> io::Result<()> {
     let large = [1000001, 1];
-    zero_or_one(rt, b"numerator too large", 2, &large)?;
+    zero_or_one(rt, "numerator too large", 2, &large)?;
     let small = [-1, -1000001];
-    zero_or_one(rt, b"numerator too small", 2, &small)
+    zero_or_one(rt, "numerator too small", 2, &small)
 }
 
 // Refusal 6. The sum of the constants is 1 or -1, which 2 does not divide.
 fn divisions(rt: &impl Print) -> io::Result<()> {
     let second = [0, 1];
     // The sum at x is 1.
-    parity(rt, b"column sum not divided", 2, &second)?;
+    parity(rt, "column sum not divided", 2, &second)?;
     let a = [1, 0, 3];
     let b = [1, 1, 0];
     let opposite = [1, -1];
     // p x l is 3.
-    single(rt, b"product in A not divided", &a, &b, 2, &opposite)?;
+    single(rt, "product in A not divided", &a, &b, 2, &opposite)?;
     let c = [1, 0, 0];
     let d = [1, 1, 3];
     // p x l is -3.
-    single(rt, b"product in B not divided", &c, &d, 2, &opposite)
+    single(rt, "product in B not divided", &c, &d, 2, &opposite)
 }
 
 // Refusal 7, the paper's case 7. The sums of the constants are 2, 0 and 1.
 fn constants(rt: &impl Print) -> io::Result<()> {
     let doubled = [2, 2];
-    parity(rt, b"case 7, p 2, 2", 2, &doubled)?;
+    parity(rt, "case 7, p 2, 2", 2, &doubled)?;
     let zero = [0, 0];
-    parity(rt, b"case 7, p 0, 0", 2, &zero)?;
+    parity(rt, "case 7, p 0, 0", 2, &zero)?;
     let half = [1, 1];
-    parity(rt, b"case 7, q 1", 1, &half)
+    parity(rt, "case 7, q 1", 1, &half)
 }
 
 // Each of these has two refusals, and is given the earlier.
@@ -638,23 +645,37 @@ fn order_of_runs(rt: &impl Print) -> io::Result<()> {
     let p = [1, 1];
     let mut f = [7, 7];
     let short = [1, -2, 0, 0];
-    line(rt, b"1 before 2", 3, 1, 1, &short, &b, 2, &p, &mut f)?;
+    line(
+        rt,
+        "1 before 2",
+        &problem(3, 1, 1, &short, &b),
+        2,
+        &p,
+        &mut f,
+    )?;
     let outside = [1, -1000002, 0, 0, 0];
-    line(rt, b"2 before 3", 3, 1, 1, &outside, &b, 2, &p, &mut f)
+    line(
+        rt,
+        "2 before 3",
+        &problem(3, 1, 1, &outside, &b),
+        2,
+        &p,
+        &mut f,
+    )
 }
 
 fn order_of_vectors(rt: &impl Print) -> io::Result<()> {
     let outside = [1, 1000001, 0];
     let b = [1, 1, 0];
     let opposite = [1, -1];
-    single(rt, b"3 before 4", &outside, &b, 0, &opposite)?;
+    single(rt, "3 before 4", &outside, &b, 0, &opposite)?;
     let large = [1000001, -1000001];
-    zero_or_one(rt, b"4 before 5", 0, &large)?;
+    zero_or_one(rt, "4 before 5", 0, &large)?;
     let odd = [0, 1000001];
-    zero_or_one(rt, b"5 before 6", 2, &odd)?;
+    zero_or_one(rt, "5 before 6", 2, &odd)?;
     let first = [1, 0];
     // The paper's case 7: the sum at x is 1, and that of the constants 0.
-    parity(rt, b"6 before 7", 2, &first)
+    parity(rt, "6 before 7", 2, &first)
 }
 
 fn examples(rt: &impl Print) -> io::Result<()> {
@@ -699,77 +720,77 @@ fn refusals(rt: &impl Print) -> io::Result<()> {
 
 // ---- The search
 
-fn ended(rt: &impl Print, outcome: search::Outcome) -> io::Result<()> {
-    match outcome {
-        search::Outcome::Unfinished => rt.write_all(b"unfinished"),
-        search::Outcome::TooLarge => rt.write_all(b"too large"),
-        search::Outcome::Refuted(q) => {
-            rt.write_all(b"refuted by q ")?;
-            signed(rt, q)
-        }
-        search::Outcome::Solved => rt.write_all(b"solved"),
+// How a search ended, and in how many steps.
+#[derive(Clone, Copy)]
+struct Ended(search::Answer);
+
+impl fmt::Display for Ended {
+    fn fmt<W: fmt::Write>(&self, f: &mut fmt::Formatter<W>) -> fmt::Result {
+        match self.0.outcome {
+            Outcome::Unfinished => write!(f, "unfinished"),
+            Outcome::TooLarge => write!(f, "too large"),
+            Outcome::Refuted(q) => write!(f, "refuted by q {q}"),
+            Outcome::Solved => write!(f, "solved"),
+        }?;
+        write!(f, " in {}", self.0.steps)
     }
 }
 
 // A line with the outcome, the count and what both runs then hold.
 fn searched(
     rt: &impl Print,
-    name: &[u8],
-    n: usize,
-    ma: usize,
-    mb: usize,
-    a: &[i64],
-    b: &[i64],
+    name: &str,
+    problem: &Problem,
     budget: u32,
     vector: &mut [i64],
     point: &mut [i64],
 ) -> io::Result<()> {
-    rt.write_all(name)?;
-    rt.write_all(b": ")?;
-    let given = search::search(n, ma, mb, a, b, budget, vector, point);
-    match given {
-        search::Reply::Refused(number) => {
-            refused(rt, number)?;
-        }
-        search::Reply::Answered(reply) => {
-            let outcome = reply.outcome;
-            ended(rt, outcome)?;
-            rt.write_all(b" in ")?;
-            rt.print(reply.steps as u64)?;
-        }
+    match search::search(problem, budget, vector, point) {
+        Ok(answer) => print!(rt; "{name}: {}", Ended(answer))?,
+        Err(refusal) => print!(rt; "{name}: refused: {}", refusal.number())?,
     }
-    rt.write_all(b"; vector")?;
-    numbers(rt, vector)?;
-    rt.write_all(b"; point")?;
-    numbers(rt, point)?;
-    rt.write_all(b"\n")
+    println!(rt; "; vector{}; point{}", Numbers(vector), Numbers(point))
 }
 
 // The paper's case 8: case 2 is refuted in 4 steps, by q 2 and p -1, 1.
-fn case_8(rt: &impl Print, name: &[u8], budget: u32) -> io::Result<()> {
+fn case_8(rt: &impl Print, name: &str, budget: u32) -> io::Result<()> {
     let a = [1, -2, 0, 0, 0];
     let b = [1, 0, -2, 1, 0];
     let mut vector = [7; 2];
     let mut point = [7; 3];
-    searched(rt, name, 3, 1, 1, &a, &b, budget, &mut vector, &mut point)
+    searched(
+        rt,
+        name,
+        &problem(3, 1, 1, &a, &b),
+        budget,
+        &mut vector,
+        &mut point,
+    )
 }
 
 // The paper's case 9: x = 1000000 and y = 1000000 x, whose point does not fit.
-fn case_9(rt: &impl Print, name: &[u8], budget: u32) -> io::Result<()> {
+fn case_9(rt: &impl Print, name: &str, budget: u32) -> io::Result<()> {
     let a = [1, 0, 1000000, 0, -1000000, 1, 0, 0];
     let b: [i64; 0] = [];
     let mut vector = [7; 2];
     let mut point = [7; 2];
-    searched(rt, name, 2, 2, 0, &a, &b, budget, &mut vector, &mut point)
+    searched(
+        rt,
+        name,
+        &problem(2, 2, 0, &a, &b),
+        budget,
+        &mut vector,
+        &mut point,
+    )
 }
 
 fn searches(rt: &impl Print) -> io::Result<()> {
-    case_8(rt, b"case 8, budget 0", 0)?;
-    case_8(rt, b"case 8, budget 3", 3)?;
-    case_8(rt, b"case 8, budget 4", 4)?;
-    case_8(rt, b"case 8, any budget", 4294967295)?;
-    case_9(rt, b"case 9, budget 1", 1)?;
-    case_9(rt, b"case 9, budget 2", 2)
+    case_8(rt, "case 8, budget 0", 0)?;
+    case_8(rt, "case 8, budget 3", 3)?;
+    case_8(rt, "case 8, budget 4", 4)?;
+    case_8(rt, "case 8, any budget", 4294967295)?;
+    case_9(rt, "case 9, budget 1", 1)?;
+    case_9(rt, "case 9, budget 2", 2)
 }
 
 fn main(rt: HostRuntime) -> io::Result<()> {

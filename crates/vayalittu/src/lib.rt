@@ -5,13 +5,15 @@
 ghost use Rattle.std.specs.Prelude.{◌≡◌};
 ghost use Rattle.checker.specs.Answer.{judge_answer, judge_run};
 ghost use Rattle.search.specs.Answer.{search_reply, search_vector, search_point, table_reply, table_run, table_number};
-ghost use Rattle.search.specs.declared.Reply.TheVariants.{Answered};
 ghost use Rattle.frames.specs.Answer.{respond_end, respond_run};
 ghost use Rattle.vayalittu.specs.Answers.{fact_of, answer_of};
 
+use problem::{Problem, Refusal};
+use search::Outcome;
+
 // What a search answers.
 #[repr(C)]
-#[derive(Drop)]
+#[derive(Clone, Copy, Debug, PartialEq, Eq)]
 pub struct Answer {
     pub refusal: u32,
     pub outcome: u32,
@@ -21,7 +23,7 @@ pub struct Answer {
 
 // What is answered of a vector, beside its interpolant's coefficients.
 #[repr(C)]
-#[derive(Drop)]
+#[derive(Clone, Copy, Debug, PartialEq, Eq)]
 pub struct Fact {
     pub refusal: u32,
     pub constant: i64,
@@ -41,7 +43,11 @@ pub fn vayalittu_judge(
     ensures value { result ≡ fact_of (judge_answer n ma mb a.now b.now q p.now coeffs.old) }
     ensures coeffs_after { coeffs.new ≡ judge_run n ma mb a.now b.now q p.now coeffs.old }
 {
-    stated(checker::judge(n, ma, mb, a, b, q, p, coeffs))
+    let problem = Problem { n, ma, mb, a, b };
+    match checker::judge(&problem, q, p, coeffs) {
+        Ok(fact) => Fact::from(fact),
+        Err(refusal) => Fact::from(refusal),
+    }
 }
 
 pub fn vayalittu_search(
@@ -58,7 +64,11 @@ pub fn vayalittu_search(
     ensures vector_after { vector.new ≡ search_vector n ma mb a.now b.now budget vector.old point.old }
     ensures point_after { point.new ≡ search_point n ma mb a.now b.now budget vector.old point.old }
 {
-    reply(search::search(n, ma, mb, a, b, budget, vector, point))
+    let problem = Problem { n, ma, mb, a, b };
+    match search::search(&problem, budget, vector, point) {
+        Ok(answer) => Answer::from(answer),
+        Err(refusal) => Answer::from(refusal),
+    }
 }
 
 pub fn vayalittu_table(
@@ -73,7 +83,11 @@ pub fn vayalittu_table(
     ensures value { result ≡ table_number (table_reply n ma mb a.now b.now budget cells.old) }
     ensures cells_after { cells.new ≡ table_run n ma mb a.now b.now budget cells.old }
 {
-    copied(search::table_after(n, ma, mb, a, b, budget, cells))
+    let problem = Problem { n, ma, mb, a, b };
+    match search::table_after(&problem, budget, cells) {
+        Ok(()) => 0,
+        Err(refusal) => refusal.number() as u32,
+    }
 }
 
 pub fn vayalittu_respond(line: &[u8], out: &mut [u8]) -> usize
@@ -83,76 +97,59 @@ pub fn vayalittu_respond(line: &[u8], out: &mut [u8]) -> usize
     frames::respond(line, out, 0)
 }
 
-fn stated(given: checker::Answer) -> Fact
-    ensures { result ≡ fact_of given }
-{
-    match given {
-        checker::Answer::Fact(constant, modulus) => Fact {
+impl From<checker::Fact> for Fact {
+    ghost from_gives = { λ stated fact. fact ≡ fact_of (Ok stated) };
+
+    fn from(stated: checker::Fact) -> Fact {
+        Fact {
             refusal: 0,
-            constant: constant,
-            modulus: modulus,
-        },
-        checker::Answer::Refused(number) => Fact {
-            refusal: number as u32,
-            constant: 0,
-            modulus: 0,
-        },
+            constant: stated.constant,
+            modulus: stated.modulus,
+        }
     }
 }
 
-fn reply(given: search::Reply) -> Answer
-    ensures { result ≡ answer_of given }
-{
-    match given {
-        search::Reply::Refused(number) => Answer {
-            refusal: number as u32,
-            outcome: 0,
-            steps: 0,
-            q: 0,
-        },
-        search::Reply::Answered(answer) => answered(answer),
+impl From<Refusal> for Fact {
+    ghost from_gives = { λ refusal fact. fact ≡ fact_of (Err refusal) };
+
+    fn from(refusal: Refusal) -> Fact {
+        Fact {
+            refusal: refusal.number() as u32,
+            constant: 0,
+            modulus: 0,
+        }
     }
 }
 
 // "Each answer carries its step count beside one of four outcomes".
-fn answered(given: search::Answer) -> Answer
-    ensures { result ≡ answer_of (Answered given) }
-{
-    let steps = given.steps;
-    let outcome = given.outcome;
-    match outcome {
-        search::Outcome::Refuted(q) => Answer {
-            refusal: 0,
-            outcome: 1,
-            steps: steps,
-            q: q,
-        },
-        search::Outcome::Solved => Answer {
-            refusal: 0,
-            outcome: 2,
-            steps: steps,
-            q: 0,
-        },
-        search::Outcome::TooLarge => Answer {
-            refusal: 8,
-            outcome: 3,
-            steps: steps,
-            q: 0,
-        },
-        search::Outcome::Unfinished => Answer {
-            refusal: 0,
-            outcome: 4,
-            steps: steps,
-            q: 0,
-        },
+impl From<search::Answer> for Answer {
+    ghost from_gives = { λ found answer. answer ≡ answer_of (Ok found) };
+
+    fn from(found: search::Answer) -> Answer {
+        let (refusal, outcome, q) = match found.outcome {
+            Outcome::Refuted(q) => (0, 1, q),
+            Outcome::Solved => (0, 2, 0),
+            Outcome::TooLarge => (Refusal::TooLarge.number(), 3, 0),
+            Outcome::Unfinished => (0, 4, 0),
+        };
+        Answer {
+            refusal: refusal as u32,
+            outcome,
+            steps: found.steps,
+            q,
+        }
     }
 }
 
-fn copied(given: search::TableReply) -> u32
-    ensures { result ≡ table_number given }
-{
-    match given {
-        search::TableReply::Copied => 0,
-        search::TableReply::Refused(number) => number as u32,
+impl From<Refusal> for Answer {
+    ghost from_gives = { λ refusal answer. answer ≡ answer_of (Err refusal) };
+
+    fn from(refusal: Refusal) -> Answer {
+        Answer {
+            refusal: refusal.number() as u32,
+            outcome: 0,
+            steps: 0,
+            q: 0,
+        }
     }
 }
