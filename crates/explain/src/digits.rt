@@ -1,9 +1,9 @@
-//! Bytes, spelt in hexadecimal.
+// Bytes, spelt in hexadecimal.
 ghost use Rattle.std.specs.Prelude.{◌≡◌, ◌-◌, ◌+◌, ◌*◌, ◌<◌, ◌≤◌, ◌⊎◌, length, IsOk, IfOk};
 
 use crate::fields::{MAX_BYTES, NoFrame};
 
-/// The bytes that a line spells, at most as many as a frame has. They are written into `bytes`.
+// The bytes that a line spells, at most as many as a frame has. They are written into `bytes`.
 pub fn decode<'a>(line: &[u8], bytes: &'a mut [u8; MAX_BYTES]) -> Result<&'a [u8], NoFrame>
     ensures { IfOk result (λ read. length line.now ≡ 2 * length read.now) }
 {
@@ -17,7 +17,7 @@ pub fn decode<'a>(line: &[u8], bytes: &'a mut [u8; MAX_BYTES]) -> Result<&'a [u8
     Ok(bytes)
 }
 
-/// The value of a digit. Capital letters are none.
+// The value of a digit. Capital letters are none.
 fn digit(character: u8) -> Result<u8, NoFrame>
     ensures decimal { 48 ≤ character → character ≤ 57 → result ≡ Ok (character - 48) }
     ensures letter { 97 ≤ character → character ≤ 102 → result ≡ Ok (character - 97 + 10) }

@@ -1,4 +1,4 @@
-//! The fields of a frame, which are read one after another.
+// The fields of a frame, which are read one after another.
 ghost use Rattle.std.specs.Prelude.{◌≡◌, ◌*◌, ◌<◌, ◌≤◌, ◌^◌, ◌↔◌, IsOk, IsSomeAnd, OnOk, IfOk};
 ghost use Rattle.std.specs.Prelude.{ℕ, List, [], ◌∷◌, length, take, drop, slice_get};
 ghost use Rattle.std.specs.Int.{w32, from_be_bytes, cast_signed};
@@ -7,13 +7,13 @@ use std::error::Error;
 use std::fmt;
 use std::marker::Model;
 
-/// The most variables, and the most rows, that a frame speaks of.
+// The most variables, and the most rows, that a frame speaks of.
 pub const MAX_COUNT: usize = 12;
 
-/// The most bytes of a frame: those of a problem, which has 8, and then rows of coefficients, a constant and a modulus, of 4 each.
+// The most bytes of a frame: those of a problem, which has 8, and then rows of coefficients, a constant and a modulus, of 4 each.
 pub const MAX_BYTES: usize = 8 + MAX_COUNT * (MAX_COUNT + 2) * 4;
 
-/// The error of a line that is no frame of the kinds 01 to 06.
+// The error of a line that is no frame of the kinds 01 to 06.
 #[derive(Clone, Copy, Debug, PartialEq, Eq)]
 pub struct NoFrame;
 
@@ -25,7 +25,7 @@ impl fmt::Display for NoFrame {
 
 impl Error for NoFrame {}
 
-/// The bytes of a frame that are not read yet, which a clause sees as a list. A number has its highest byte first.
+// The bytes of a frame that are not read yet, which a clause sees as a list. A number has its highest byte first.
 #[derive(Drop)]
 pub struct Fields<'a>(&'a [u8]);
 
@@ -60,7 +60,7 @@ impl<'a> Fields<'a> {
         Ok(byte)
     }
 
-    /// A byte that counts variables or rows.
+    // A byte that counts variables or rows.
     pub fn count(&mut self) -> Result<usize, NoFrame>
         ensures in_range { IsOk result ↔ IsSomeAnd (slice_get self.old 0) (λ count. (1 ≤ count) × (count ≤ MAX_COUNT)) }
         ensures taken { IfOk result (λ count. self.old ≡ count ∷ self.new) }
@@ -69,7 +69,7 @@ impl<'a> Fields<'a> {
         checked_count(usize::from(self.byte()?))
     }
 
-    /// A number of 4 bytes without a sign.
+    // A number of 4 bytes without a sign.
     pub fn unsigned(&mut self) -> Result<u32, NoFrame>
         ensures enough { IsOk result ↔ (4 ≤ length self.old) }
         ensures value { IfOk result (λ number. number ≡ from_be_bytes w32 (take 4 self.old)) }
@@ -78,7 +78,7 @@ impl<'a> Fields<'a> {
         Ok(u32::from_be_bytes(self.array()?))
     }
 
-    /// A number of 4 bytes in two's complement.
+    // A number of 4 bytes in two's complement.
     pub fn signed(&mut self) -> Result<i32, NoFrame>
         ensures enough { IsOk result ↔ (4 ≤ length self.old) }
         ensures value { IfOk result (λ number. number ≡ cast_signed w32 (from_be_bytes w32 (take 4 self.old))) }
@@ -87,7 +87,7 @@ impl<'a> Fields<'a> {
         Ok(i32::from_be_bytes(self.array()?))
     }
 
-    /// Some numbers of `N` bytes each, left as they stand.
+    // Some numbers of `N` bytes each, left as they stand.
     pub fn numbers<const N: usize>(&mut self, count: usize) -> Result<&'a [[u8; N]], NoFrame>
         requires sized { 0 < N }
         requires fits { count * N < 2 ^ 64 }
@@ -101,7 +101,7 @@ impl<'a> Fields<'a> {
         Ok(numbers)
     }
 
-    /// That nothing is left.
+    // That nothing is left.
     pub fn end(&self) -> Result<(), NoFrame>
         ensures { IsOk result ↔ (self.now ≡ []) }
     {
@@ -113,7 +113,7 @@ impl<'a> Fields<'a> {
     }
 }
 
-/// A count of variables or of rows, if it is 1 to 12.
+// A count of variables or of rows, if it is 1 to 12.
 pub fn checked_count(count: usize) -> Result<usize, NoFrame>
     ensures in_range { IsOk result ↔ (1 ≤ count) × (count ≤ MAX_COUNT) }
     ensures same { IfOk result (λ checked. checked ≡ count) }

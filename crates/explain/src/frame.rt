@@ -1,4 +1,4 @@
-//! The frames 01 to 06: how they are read, and what they say.
+// The frames 01 to 06: how they are read, and what they say.
 ghost use Rattle.std.specs.Prelude.{◌≡◌, ◌+◌, ◌*◌, ◌≤◌, ◌↔◌, length, IsOk, IfOk};
 ghost use Rattle.explain.specs.declared.fields.TheConstants.{MAX_COUNT};
 
@@ -6,7 +6,7 @@ use crate::fields::{Fields, NoFrame, checked_count};
 use crate::row::{Number, Row};
 use std::fmt;
 
-/// What a frame is about, as its first byte says.
+// What a frame is about, as its first byte says.
 #[derive(Clone, Copy, Debug, PartialEq, Eq)]
 pub enum Kind {
     Problem,
@@ -35,45 +35,45 @@ impl TryFrom<u8> for Kind {
     }
 }
 
-/// A frame. Its lists of numbers are left where they stand.
+// A frame. Its lists of numbers are left where they stand.
 #[derive(Drop)]
 pub enum Frame<'a> {
-    /// The rows of sides A and B, and the steps that a search may take.
+    // The rows of sides A and B, and the steps that a search may take.
     Problem {
         a: Side<'a>,
         b: Side<'a>,
         budget: u32,
     },
 
-    /// A numerator for each row, over one denominator.
+    // A numerator for each row, over one denominator.
     Refutation {
         steps: Steps,
         numerators: Numerators<'a>,
         denominator: i32,
     },
 
-    /// A point on which each row holds.
+    // A point on which each row holds.
     Point {
         steps: Steps,
         values: Values<'a>,
     },
 
-    /// That the budget was used up.
+    // That the budget was used up.
     Unfinished {
         steps: Steps,
     },
 
-    /// What follows from side A, and contradicts side B.
+    // What follows from side A, and contradicts side B.
     Interpolant(Fact<'a>),
 
-    /// Why there is no other answer, by its number. The steps are those of a refusal by `TOO_LARGE`.
+    // Why there is no other answer, by its number. The steps are those of a refusal by `TOO_LARGE`.
     Refusal {
         number: u8,
         steps: Steps,
     },
 }
 
-/// The number of the refusal that comes where numbers grew too large.
+// The number of the refusal that comes where numbers grew too large.
 const TOO_LARGE: u8 = 8;
 
 // How the frames of each kind are read, from their second byte on. That nothing stands after a frame is tested where these are called.
@@ -165,7 +165,7 @@ impl fmt::Display for Frame<'_> {
     }
 }
 
-/// A count of steps.
+// A count of steps.
 #[derive(Clone, Copy)]
 pub struct Steps(u32);
 
@@ -178,7 +178,7 @@ impl fmt::Display for Steps {
     }
 }
 
-/// The rows of one side of a problem, one after another.
+// The rows of one side of a problem, one after another.
 #[derive(Clone, Copy)]
 pub struct Side<'a> {
     numbers: &'a [[u8; 4]],
@@ -209,7 +209,7 @@ impl fmt::Display for Side<'_> {
     }
 }
 
-/// The numerators of a refutation, in the order of the rows.
+// The numerators of a refutation, in the order of the rows.
 #[derive(Clone, Copy)]
 pub struct Numerators<'a>(&'a [[u8; 4]]);
 
@@ -219,7 +219,7 @@ impl fmt::Display for Numerators<'_> {
     }
 }
 
-/// The values of the variables at a point.
+// The values of the variables at a point.
 #[derive(Clone, Copy)]
 pub struct Values<'a>(&'a [[u8; 4]]);
 
@@ -233,7 +233,7 @@ impl fmt::Display for Values<'_> {
     }
 }
 
-/// A variable with its value.
+// A variable with its value.
 #[derive(Clone, Copy)]
 struct Assignment {
     variable: u64,
@@ -246,7 +246,7 @@ impl fmt::Display for Assignment {
     }
 }
 
-/// An interpolant. Without terms it is TRUE or FALSE where it is in normal form; any other is written as a row is.
+// An interpolant. Without terms it is TRUE or FALSE where it is in normal form; any other is written as a row is.
 #[derive(Clone, Copy)]
 pub struct Fact<'a>(Row<'a, [u8; 8]>);
 

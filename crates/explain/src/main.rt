@@ -1,8 +1,8 @@
-//! Writes each line of standard input, a frame 01 to 06, as one line of text that a person can check by hand. A line that is no frame is
-//! said to be none.
-//!
-//! The input is read in large chunks, and a `Line` collects the characters of the line that has not ended. Of a whole line the digits
-//! are decoded, the bytes that they spell are read as a `Frame`, and the frame is displayed.
+// Writes each line of standard input, a frame 01 to 06, as one line of text that a person can check by hand. A line that is no frame is
+// said to be none.
+//
+// The input is read in large chunks, and a `Line` collects the characters of the line that has not ended. Of a whole line the digits
+// are decoded, the bytes that they spell are read as a `Frame`, and the frame is displayed.
 #![tactic(auto)]
 
 mod digits;
@@ -19,10 +19,10 @@ use std::io;
 use std::io::{BufWriter, ErrorKind, Read, Write};
 use std::process::ExitCode;
 
-/// How much is read, and how much is written, at a time.
+// How much is read, and how much is written, at a time.
 const CHUNK_SIZE: usize = 65536;
 
-/// Writes what a line says, with a line end.
+// Writes what a line says, with a line end.
 fn explain(line: &[u8], output: &mut impl Write) -> io::Result<()> {
     let mut bytes = [0; MAX_BYTES];
     match digits::decode(line, &mut bytes).and_then(Frame::try_from) {
@@ -31,8 +31,8 @@ fn explain(line: &[u8], output: &mut impl Write) -> io::Result<()> {
     }
 }
 
-/// Explains each line that ends in a chunk, and writes what this made. `line` has what came before of the first line, and then gets
-/// what is left after the last line end.
+// Explains each line that ends in a chunk, and writes what this made. `line` has what came before of the first line, and then gets
+// what is left after the last line end.
 fn explain_chunk(chunk: &[u8], line: &mut Line, output: &mut impl Write) -> io::Result<()> {
     for &character in chunk {
         if character == b'\n' {
@@ -45,10 +45,10 @@ fn explain_chunk(chunk: &[u8], line: &mut Line, output: &mut impl Write) -> io::
     output.flush()
 }
 
-/// Explains each line of the input. A last line needs no line end, and a read that a signal interrupts is tried again. The buffer of
-/// the output is the only memory that is asked for.
-///
-/// A proved loop has to end, and nothing says that the input does: the reads are counted up to a number that no run reaches.
+// Explains each line of the input. A last line needs no line end, and a read that a signal interrupts is tried again. The buffer of
+// the output is the only memory that is asked for.
+//
+// A proved loop has to end, and nothing says that the input does: the reads are counted up to a number that no run reaches.
 fn explain_all(alloc: Global, input: &mut impl Read, output: impl Write + Drop) -> io::Result<()> {
     let mut output = BufWriter::with_capacity(alloc, CHUNK_SIZE, output)?;
     let mut chunk = [0; CHUNK_SIZE];

@@ -1,12 +1,12 @@
-//! Rows, and what they are written with: numbers, terms and sums of terms.
+// Rows, and what they are written with: numbers, terms and sums of terms.
 ghost use Rattle.std.specs.Prelude.{◌≡◌, ◌≢◌, ◌-◌, ◌≤◌, ◌↔◌, ℤ, pos, length, take, slice_get, IfSome, IsTrue, Any};
 ghost use Rattle.std.specs.Int.{w32, w64, from_be_bytes, cast_signed};
 
 use std::fmt;
 
-/// A number in two's complement, its highest byte first.
+// A number in two's complement, its highest byte first.
 pub trait Number: Copy {
-    /// The number that the bytes stand for.
+    // The number that the bytes stand for.
     ghost number: { Self → ℤ };
 
     fn value(self) -> i64
@@ -29,9 +29,9 @@ impl Number for [u8; 8] {
     }
 }
 
-/// A coefficient times its variable. The variables are x1, x2 and so on.
-///
-/// `{}` writes a first term, as `-2*x1`, and `{:+}` one that follows another, as ` - 2*x1`.
+// A coefficient times its variable. The variables are x1, x2 and so on.
+//
+// `{}` writes a first term, as `-2*x1`, and `{:+}` one that follows another, as ` - 2*x1`.
 #[derive(Clone, Copy)]
 struct Term {
     coefficient: i64,
@@ -54,7 +54,7 @@ impl fmt::Display for Term {
     }
 }
 
-/// The sum of coefficients times their variables. A term whose coefficient is 0 is not written.
+// The sum of coefficients times their variables. A term whose coefficient is 0 is not written.
 #[derive(Clone, Copy)]
 struct Sum<'a, N>(&'a [N]);
 
@@ -78,7 +78,7 @@ impl<N: Number> fmt::Display for Sum<'_, N> {
     }
 }
 
-/// The sum of some terms, and the constant that it equals. Modulus 0 is an equation.
+// The sum of some terms, and the constant that it equals. Modulus 0 is an equation.
 #[derive(Clone, Copy)]
 pub struct Row<'a, N> {
     pub coefficients: &'a [N],
@@ -87,7 +87,7 @@ pub struct Row<'a, N> {
 }
 
 impl<'a, N: Number> Row<'a, N> {
-    /// The row of some numbers: coefficients, the constant and the modulus.
+    // The row of some numbers: coefficients, the constant and the modulus.
     pub fn new(numbers: &'a [N]) -> Self
         requires { 2 ≤ length numbers.now }
         ensures coefficients { result.coefficients.now ≡ take (length numbers.now - 2) numbers.now }

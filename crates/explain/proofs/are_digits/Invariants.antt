@@ -1,9 +1,0 @@
--- Each turn takes one character more of the line.
-use Rattle.std.proofs.Common.{◌-◌, ◌≤◌, length}
-use Rattle.explain.proofs.are_digits.Given as goal
-
-abbrev pub invariant-loop-i : goal.invariant-loop-i
-invariant-loop-i l = l.i ≤ length l.line
-
-abbrev pub decreases-loop-i : goal.decreases-loop-i
-decreases-loop-i l = length l.line - l.i

@@ -1,5 +1,0 @@
--- The turns are counted down.
-use Rattle.explain.proofs.explain_all.Given as goal
-
-abbrev pub decreases-loop-turns : goal.decreases-loop-turns
-decreases-loop-turns g l = l.turns

@@ -1,9 +1,0 @@
--- Each turn takes one numerator more.
-use Rattle.std.proofs.Common.{◌-◌, ◌≤◌}
-use Rattle.explain.proofs.put_numerators.Given as goal
-
-abbrev pub invariant-loop-i : goal.invariant-loop-i
-invariant-loop-i l = l.i ≤ l.m
-
-abbrev pub decreases-loop-i : goal.decreases-loop-i
-decreases-loop-i l = l.m - l.i
