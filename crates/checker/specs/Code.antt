@@ -1,5 +1,6 @@
 -- What the private functions ask for and compute.
 --
+--     rows_in                the rows of a side
 --     numbers, weights       a column of a side; the numerators from a place on
 --     Weighable              the rows and the vector of a problem, in their ranges
 --     shared_sum, local_sum  A's column sum at a shared, and at an A-local variable, else 0
@@ -10,7 +11,8 @@ use Rattle.integers.specs.Range.{is_zero, is_negative}
 use Rattle.integers.specs.Divisibility.{divides}
 use Rattle.integers.specs.Gcd.{gcd_from}
 use Rattle.integers.specs.Run.{at}
-use Rattle.problem.specs.Rows.{side_of}
+use Rattle.problem.specs.Rows.{Rows, side_of}
+use Rattle.problem.specs.declared.Side.{Side}
 use Rattle.problem.specs.WellFormed.{WellFormed}
 use Rattle.problem.specs.Occurrence.{occurs, shared, local_a}
 use Rattle.checker.specs.Refutation.{column_sum, numerator, Numerators}
@@ -18,6 +20,9 @@ use Rattle.checker.specs.Fact.{Fact}
 use Rattle.checker.specs.NormalForm.{false_fact, divided, first_nonzero, sign_by, unit_by}
 
 -- Sums -----------------------------------------------------------------------------------------------------------------
+
+abbrev pub rows_in : Side → Rows
+rows_in side = side_of side.n side.m side.run.now
 
 -- column of a side whose rows have n + 2 numbers: a coefficient's below n, the constants' n, the moduli's n + 1
 abbrev pub numbers : ℕ → List ℤ → ℕ → ℕ → ℤ

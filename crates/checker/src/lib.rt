@@ -8,7 +8,7 @@ ghost use Rattle.integers.specs.Gcd.{gcd_from};
 ghost use Rattle.integers.specs.Sum.{dot};
 ghost use Rattle.integers.specs.Below.{all_below};
 ghost use Rattle.integers.specs.Run.{at, tabulate};
-ghost use Rattle.problem.specs.Rows.{side_of, rows_of};
+ghost use Rattle.problem.specs.Rows.{rows_of};
 ghost use Rattle.problem.specs.WellFormed.{million};
 ghost use Rattle.problem.specs.Occurrence.{occurs};
 ghost use Rattle.problem.specs.Refusal.{refusal_in};
@@ -16,7 +16,7 @@ ghost use Rattle.problem.specs.Lent.{lent};
 ghost use Rattle.checker.specs.Refutation.{column_sum, numerator, is_vector, divides_sums, refusal};
 ghost use Rattle.checker.specs.NormalForm.{first_nonzero};
 ghost use Rattle.checker.specs.Answer.{interpolant_for, stated, judge_answer, judge_run};
-ghost use Rattle.checker.specs.Code.{numbers, weights, shared_sum, local_sum, largest, Small, fact_of, made_positive, finished, short_form};
+ghost use Rattle.checker.specs.Code.{rows_in, numbers, weights, shared_sum, local_sum, largest, Small, fact_of, made_positive, finished, short_form};
 
 use problem::{Problem, Refusal, Rows, Side};
 
@@ -111,14 +111,14 @@ impl<'a> Weighed<'a> {
 
     // Whether q divides each column's sum, and each product of a weight and its row's modulus.
     fn divides_sums(&self, q: i64) -> bool
-        ensures { result ≡ lent (λ n ma mb a b. divides_sums n (rows_of n ma mb a b) q (numerator self.now.p.now)) self.now.rows.problem }
+        ensures { let P = self.now.rows.problem in result ≡ divides_sums P.n (lent rows_of P) q (numerator self.now.p.now) }
     {
         self.divides_columns(q) && self.a().divides_moduli(q) && self.b().divides_moduli(q)
     }
 
     // Whether q divides each column's sum.
     fn divides_columns(&self, q: i64) -> bool
-        ensures { result ≡ lent (λ n ma mb a b. all_below n (λ j. divides q (column_sum (rows_of n ma mb a b) (numerator self.now.p.now) j))) self.now.rows.problem }
+        ensures { let P = self.now.rows.problem in result ≡ all_below P.n (λ j. divides q (column_sum (lent rows_of P) (numerator self.now.p.now) j)) }
     {
         (0..self.rows.problem.n).all(|j| integers::divides(q, self.total(j)))
     }
@@ -126,7 +126,7 @@ impl<'a> Weighed<'a> {
     // The weighted sum of a column over all rows.
     fn total(&self, column: usize) -> i64
         requires { column ≤ self.now.rows.problem.n }
-        ensures { result ≡ lent (λ n ma mb a b. dot ma (numerator self.now.p.now) (numbers n a column) +ℤ dot mb (weights self.now.p.now ma) (numbers n b column)) self.now.rows.problem }
+        ensures { let P = self.now.rows.problem in result ≡ dot P.ma (numerator self.now.p.now) (numbers P.n P.a.now column) +ℤ dot P.mb (weights self.now.p.now P.ma) (numbers P.n P.b.now column) }
     {
         self.a().column_sum(column) + self.b().column_sum(column)
     }
@@ -230,14 +230,14 @@ impl WeighedSide<'_> {
 
     // Whether q divides each product of a weight and its row's modulus.
     fn divides_moduli(&self, q: i64) -> bool
-        ensures { result ≡ all_below self.now.side.m (λ i. divides q (at self.now.weights.now i *ℤ (side_of self.now.side.n self.now.side.m self.now.side.run.now).modulus i)) }
+        ensures { result ≡ all_below self.now.side.m (λ i. divides q (at self.now.weights.now i *ℤ (rows_in self.now.side).modulus i)) }
     {
         (0..self.side.m).all(|i| integers::divides(q, self.product(i, self.side.n + 1)))
     }
 
     // The gcd of g and of each product of a weight and its row's modulus.
     fn moduli_gcd(&self, g: u64) -> u64
-        ensures { pos result ≡ gcd_from (pos g) self.now.side.m (λ i. at self.now.weights.now i *ℤ (side_of self.now.side.n self.now.side.m self.now.side.run.now).modulus i) }
+        ensures { pos result ≡ gcd_from (pos g) self.now.side.m (λ i. at self.now.weights.now i *ℤ (rows_in self.now.side).modulus i) }
     {
         let mut common = g;
         for i in 0..self.side.m {
@@ -253,7 +253,7 @@ impl WeighedSide<'_> {
 // Whether variable j occurs in a side: whether its coefficient counts in some row.
 fn occurs(side: &Side, j: usize) -> bool
     requires { j < side.now.n }
-    ensures { result ≡ occurs (side_of side.now.n side.now.m side.now.run.now) j }
+    ensures { result ≡ occurs (rows_in side.now) j }
 {
     (0..side.m).any(|i| problem::counts(side.number(i, side.n + 1), side.number(i, j)))
 }
