@@ -119,14 +119,14 @@ fn row_in_range(n: usize, m: usize, run: &[i64], i: usize) -> bool
 {
     let start = i * (n + 2);
     let modulus = integers::at(run, start + n + 1);
-    all_within(run, start, n)
+    are_coefficients(run, start, n)
         && integers::within(1000000, integers::at(run, start + n))
         && integers::within(1000000, modulus)
         && !integers::is_negative(modulus)
 }
 
 // Whether some numbers of a run, from a place on, are in the range of coefficients.
-fn all_within(run: &[i64], start: usize, count: usize) -> bool
+fn are_coefficients(run: &[i64], start: usize, count: usize) -> bool
     requires { (start ≤ 168) × (count ≤ 12) }
     ensures { result ≡ all_below count (λ j. within million (at run.now (start + j))) }
 {

@@ -6,7 +6,7 @@ use Rattle.integers.specs.Range.{within}
 use Rattle.integers.specs.Run.{at}
 use Rattle.integers.proofs.Laws.Below.{all_range}
 use Rattle.problem.specs.WellFormed.{million}
-use Rattle.problem.proofs.all_within.Goals as goal
+use Rattle.problem.proofs.are_coefficients.Goals as goal
 
 pub returns : goal.returns
 returns c =
