@@ -11,16 +11,16 @@
 --
 -- If the checker refused a vector that the search found, the answer would be frame 06 with its number: that it never does is no part
 -- of the definition.
-use Rattle.std.specs.Prelude.{List, [], ◌∷◌, ◌++◌, Bool, cond, ℕ, zero, suc, ◌+◌, leb, length, replicate, ℤ, pos}
+use Rattle.std.specs.Prelude.{List, [], ◌∷◌, ◌++◌, Bool, cond, ℕ, ◌+◌, leb, length, replicate, ℤ, pos, Option, Some, None, Result, Ok, Err}
 use Rattle.std.proofs.lemmas.List.Edits.{sets}
+use Rattle.problem.specs.declared.Refusal.{Refusal}
+use Rattle.problem.specs.Refusal.{number_of}
 use Rattle.checker.specs.Answer.{judge_answer, judge_run}
-use Rattle.checker.specs.declared.Answer.{Answer}
-use Rattle.checker.specs.declared.Answer.TheVariants.{Fact, Refused as Unstated}
+use Rattle.checker.specs.declared.Fact.{Fact}
 use Rattle.search.specs.Answer.{search_reply, search_vector, search_point}
+use Rattle.search.specs.declared.Answer.{Answer}
 use Rattle.search.specs.declared.Outcome.{Outcome}
 use Rattle.search.specs.declared.Outcome.TheVariants.{Unfinished, TooLarge, Refuted, Solved}
-use Rattle.search.specs.declared.Reply.{Reply}
-use Rattle.search.specs.declared.Reply.TheVariants.{Refused, Answered}
 use Rattle.frames.specs.Hex.{hex, signed_hex, hexes}
 use Rattle.frames.specs.Problem.{line_refusal, n_of, ma_of, mb_of, budget_of, side_a, side_b}
 
@@ -49,9 +49,9 @@ unfoldable pub refusal_frame : ℕ → ℕ → List ℕ
 refusal_frame number steps = hex 2 6 ++ (hex 2 number ++ (hex 8 steps ++ line_end))
 
 -- a vector that the search found: `coeffs` is what the checker then leaves
-abbrev pub fact_answer : Answer → ℕ → ℕ → ℕ → ℤ → List ℤ → List ℤ → List ℕ
-fact_answer (Fact constant modulus) n m steps q vector coeffs = refutation_frame steps m q vector ++ interpolant_frame n coeffs constant modulus
-fact_answer (Unstated number) n m steps q vector coeffs = refusal_frame number 0
+abbrev pub fact_answer : Result Fact Refusal → ℕ → ℕ → ℕ → ℤ → List ℤ → List ℤ → List ℕ
+fact_answer (Ok fact) n m steps q vector coeffs = refutation_frame steps m q vector ++ interpolant_frame n coeffs fact.constant fact.modulus
+fact_answer (Err refusal) n m steps q vector coeffs = refusal_frame (number_of refusal) 0
 
 abbrev pub refuted_answer : ℤ → ℕ → ℕ → ℕ → ℕ → List ℤ → List ℤ → List ℤ → List ℤ → List ℕ
 refuted_answer q steps n ma mb a b vector coeffs =
@@ -64,9 +64,9 @@ outcome_answer TooLarge steps n ma mb a b vector point coeffs = refusal_frame 8 
 outcome_answer (Refuted q) steps n ma mb a b vector point coeffs = refuted_answer q steps n ma mb a b vector coeffs
 outcome_answer Solved steps n ma mb a b vector point coeffs = point_frame steps n point
 
-abbrev pub reply_answer : Reply → ℕ → ℕ → ℕ → List ℤ → List ℤ → List ℤ → List ℤ → List ℤ → List ℕ
-reply_answer (Refused number) n ma mb a b vector point coeffs = refusal_frame number 0
-reply_answer (Answered found) n ma mb a b vector point coeffs = outcome_answer found.outcome found.steps n ma mb a b vector point coeffs
+abbrev pub reply_answer : Result Answer Refusal → ℕ → ℕ → ℕ → List ℤ → List ℤ → List ℤ → List ℤ → List ℤ → List ℕ
+reply_answer (Ok found) n ma mb a b vector point coeffs = outcome_answer found.outcome found.steps n ma mb a b vector point coeffs
+reply_answer (Err refusal) n ma mb a b vector point coeffs = refusal_frame (number_of refusal) 0
 
 unfoldable pub problem_answer : ℕ → ℕ → ℕ → List ℤ → List ℤ → ℕ → List ℤ → List ℤ → List ℤ → List ℕ
 problem_answer n ma mb a b budget vector point coeffs =
@@ -78,9 +78,9 @@ zeros k = replicate k (pos 0)
 unfoldable pub problem_lines : List ℕ → List ℕ
 problem_lines l = problem_answer (n_of l) (ma_of l) (mb_of l) (side_a l) (side_b l) (budget_of l) (zeros (ma_of l + mb_of l)) (zeros (n_of l)) (zeros (n_of l))
 
-abbrev pub answer_by : ℕ → List ℕ → List ℕ
-answer_by zero lines = lines
-answer_by (suc k) lines = refusal_frame (suc k) 0
+abbrev pub answer_by : Option Refusal → List ℕ → List ℕ
+answer_by None lines = lines
+answer_by (Some refusal) lines = refusal_frame (number_of refusal) 0
 
 unfoldable pub answer_of : List ℕ → List ℕ
 answer_of l = answer_by (line_refusal l) (problem_lines l)

@@ -1,25 +1,20 @@
--- What the private functions ask for and leave.
+-- What the private functions ask for.
 --
---     Written before at text after end    `text` stands in `after` from `at` on, where `end` is the place past it; all else is as before
---     Answerable                          what the writers of answers ask: runs of the right lengths, and room
---     Readable                            what the reader of the sides asks: a line of digits with that many numbers
-use Rattle.std.specs.Prelude.{◌≡◌, true, List, ℕ, ◌+◌, ◌*◌, ◌≤◌, length, ℤ}
-use Rattle.std.proofs.lemmas.List.Edits.{sets}
-use Rattle.frames.specs.Problem.{are_digits}
-use Rattle.frames.specs.Answer.{answer_max}
+--     Few        counts within their bounds
+--     Readable   a line has the two sides that its head speaks of, which are no longer than the largest
+use Rattle.std.specs.Prelude.{◌≡◌, true, List, ℕ, ◌+◌, ◌*◌, ◌≤◌, length}
+use Rattle.problem.specs.declared.Problem.{Problem}
+use Rattle.frames.specs.declared.Head.{Head}
+use Rattle.frames.specs.Problem.{are_digits, side_long}
 
-pub record Written (before : List ℕ) (at : ℕ) (text after : List ℕ) (end : ℕ) : Type 0 where
-  pub run : after ≡ sets before at text
-  pub place : end ≡ at + length text
+pub record Few (problem : Problem) : Type 0 where
+  pub few_n : problem.n ≤ 12
+  pub few_m : problem.ma + problem.mb ≤ 12
 
-pub record Answerable (n ma mb : ℕ) (vector coeffs : List ℤ) (out : List ℕ) (at : ℕ) : Type 0 where
-  pub few_n : n ≤ 12
-  pub few_m : ma + mb ≤ 12
-  pub vector_long : length vector ≡ ma + mb
-  pub coeffs_long : length coeffs ≡ n
-  pub room : at + answer_max ≤ length out
-
-pub record Readable (line : List ℕ) (long-a long-b : ℕ) : Type 0 where
-  pub head : 16 ≤ length line
-  pub numbers : 16 + long-a * 8 + long-b * 8 ≤ length line
+pub record Readable (line : List ℕ) (head : Head) : Type 0 where
+  pub few_n : head.n ≤ 12
+  pub few_m : head.ma + head.mb ≤ 12
+  pub small_a : side_long head.n head.ma ≤ 168
+  pub small_b : side_long head.n head.mb ≤ 168
   pub digits : are_digits line ≡ true
+  pub long : length line ≡ 16 + side_long head.n head.ma * 8 + side_long head.n head.mb * 8

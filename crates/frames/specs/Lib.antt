@@ -4,7 +4,7 @@
 --     Problem    is_frame  is_problem  line_refusal  side_a  side_b    frame 01, and the refusals before any search
 --     Answer     answer_of  respond_end  respond_run                   frames 02 to 06, the answer to a line, and what `respond` leaves
 --     Promises   IsLine  IsAnswer                                      what the theorems of proofs/Theorems say of them
---     Code       what the private functions ask for and leave; a reader of the public contract can pass it over
+--     Code       what the private functions ask for; a reader of the public contract can pass it over
 pub mod Hex
 pub mod Problem
 pub mod Answer

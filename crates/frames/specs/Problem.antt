@@ -4,15 +4,20 @@
 --     is_frame l        not refused with 9: "an empty line, an odd digit count, another character, fewer than 8 bytes, first byte not
 --                       01, or more than 1,360 digits"
 --     is_problem l      not refused with 1: the counts are right, and the length agrees with them
---     line_refusal l    9, 1, or 0 if the line is a problem; 3 is left to the search
+--     line_refusal l    9, 1, or none if the line is a problem; 3 is left to the search
+--     line_number l     its number, 0 for none
+--     head_of l         what a frame says before its rows
 --     n_of, ma_of, mb_of, budget_of     the fields of a frame           side_long    the numbers of a side
 --     are_digits, numbers_at     all characters are digits; some numbers from a place on
 --     side_a, side_b    the numbers of the two sides
 --     problem_frame     the frame of a problem, without line end; that it is read back as that problem: proofs/Theorems/Problem.antt
-use Rattle.std.specs.Prelude.{List, ◌++◌, Bool, ◌&&◌, ℕ, ◌+◌, ◌*◌, ◌%◌, eqb, leb, length, get_or, ℤ}
+use Rattle.std.specs.Prelude.{List, ◌++◌, Bool, ◌&&◌, ℕ, ◌+◌, ◌*◌, ◌%◌, eqb, leb, length, get_or, ℤ, Option, None}
 use Rattle.integers.specs.Below.{all_below}
 use Rattle.integers.specs.Run.{tabulate}
-use Rattle.checker.specs.Refutation.{unless}
+use Rattle.problem.specs.declared.Refusal.{Refusal}
+use Rattle.problem.specs.declared.Refusal.TheVariants.{WrongShape, NoFrame}
+use Rattle.problem.specs.Refusal.{unless, number_or_none}
+use Rattle.frames.specs.declared.Head.{Head}
 use Rattle.frames.specs.Hex.{is_digit, value_at, number_at, hex, hexes}
 
 abbrev pub are_digits : List ℕ → Bool
@@ -37,12 +42,21 @@ budget_of l = value_at l 8 8
 abbrev pub side_long : ℕ → ℕ → ℕ
 side_long n m = m * (n + 2)
 
-unfoldable pub is_problem : List ℕ → Bool
-is_problem l =
-    leb 1 (n_of l) && (leb (n_of l) 12 && (leb 1 (ma_of l + mb_of l) && (leb (ma_of l + mb_of l) 12 && eqb (length l) (16 + side_long (n_of l) (ma_of l + mb_of l) * 8))))
+-- the counts of n variables and m rows are right, and a frame of them is `long` characters long
+abbrev pub agree : ℕ → ℕ → ℕ → Bool
+agree n m long = leb 1 n && (leb n 12 && (leb 1 m && (leb m 12 && eqb long (16 + side_long n m * 8))))
 
-unfoldable pub line_refusal : List ℕ → ℕ
-line_refusal l = unless (is_frame l) 9 (unless (is_problem l) 1 0)
+unfoldable pub is_problem : List ℕ → Bool
+is_problem l = agree (n_of l) (ma_of l + mb_of l) (length l)
+
+unfoldable pub line_refusal : List ℕ → Option Refusal
+line_refusal l = unless (is_frame l) NoFrame (unless (is_problem l) WrongShape None)
+
+abbrev pub line_number : List ℕ → ℕ
+line_number l = number_or_none (line_refusal l)
+
+abbrev pub head_of : List ℕ → Head
+head_of l = record { n = n_of l; ma = ma_of l; mb = mb_of l; budget = budget_of l }
 
 -- `count` numbers from place i on
 abbrev pub numbers_at : List ℕ → ℕ → ℕ → List ℤ

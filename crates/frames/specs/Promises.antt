@@ -8,13 +8,12 @@
 --     Certifies text    text is a refutation that the checker accepts, and its interpolant
 --     Fits32 run        each number of a run fits 4 bytes
 --     Reads             a line is read as a problem: its counts, its budget and its two sides
-use Rattle.std.specs.Prelude.{◌≡◌, true, List, ◌++◌, ℕ, ◌+◌, ◌*◌, ◌%◌, ◌<◌, ◌≤◌, length, get_or, ℤ}
+use Rattle.std.specs.Prelude.{◌≡◌, true, List, ◌++◌, ℕ, ◌+◌, ◌*◌, ◌%◌, ◌<◌, ◌≤◌, length, get_or, ℤ, None, Ok}
 use Rattle.std.specs.Int.{w32}
 use Rattle.std.proofs.Common.{SFits}
 use Rattle.integers.specs.Run.{at}
 use Rattle.checker.specs.Answer.{judge_answer, judge_run}
 use Rattle.checker.specs.Promises.{Accepted}
-use Rattle.checker.specs.declared.Answer.TheVariants.{Fact}
 use Rattle.frames.specs.Hex.{is_digit, value_at}
 use Rattle.frames.specs.Problem.{are_digits, line_refusal, n_of, ma_of, mb_of, budget_of, side_long, side_a, side_b}
 use Rattle.frames.specs.Answer.{line_end, refutation_frame, interpolant_frame, zeros}
@@ -59,7 +58,7 @@ pub record Certifies (n ma mb : ℕ) (a b : List ℤ) (q : ℤ) (text : List ℕ
   pub constant : ℤ
   pub modulus : ℤ
   pub accepted : Accepted n ma mb a b q vector
-  pub stated : judge_answer n ma mb a b q vector (zeros n) ≡ Fact constant modulus
+  pub stated : judge_answer n ma mb a b q vector (zeros n) ≡ Ok (record { constant = constant; modulus = modulus })
   pub written : judge_run n ma mb a b q vector (zeros n) ≡ coeffs
   pub is : text ≡ refutation_frame steps (ma + mb) q vector ++ interpolant_frame n coeffs constant modulus
 
@@ -67,7 +66,7 @@ pub record Fits32 (run : List ℤ) : Type 0 where
   pub each : (i : ℕ) → i < length run → SFits w32 (at run i)
 
 pub record Reads (l : List ℕ) (n ma mb budget : ℕ) (a b : List ℤ) : Type 0 where
-  pub taken : line_refusal l ≡ 0
+  pub taken : line_refusal l ≡ None
   pub is_n : n_of l ≡ n
   pub is_ma : ma_of l ≡ ma
   pub is_mb : mb_of l ≡ mb

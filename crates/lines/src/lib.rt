@@ -1,14 +1,19 @@
-// Lines: a stream of bytes, however it arrives in chunks, is cut into lines, and each line is answered.
+//! Lines: a stream of bytes, however it arrives in chunks, is cut into lines, and each line is answered.
 #![tactic(auto)]
 
-ghost use Rattle.std.specs.Prelude.{◌≡◌, ◌++◌, ◌+◌, ◌-◌, ◌≤◌, min, length, take, drop};
-ghost use Rattle.std.proofs.Math.Seq.{paste};
+ghost use Rattle.std.specs.Prelude.{◌≡◌, ◌++◌, ◌≤◌, length, take};
 ghost use Rattle.frames.specs.Answer.{respond_end, respond_run};
-ghost use Rattle.lines.specs.Lines.{cap, part, end_from, kept_held, kept_run, answered_run, is_carry, fits, fed_progress, fed_carry, fed_out, finish_end, finish_run};
+ghost use Rattle.lines.specs.Lines.{end_from, kept_held, kept_run, answered_run, is_carry, fits, fed_progress, fed_carry, fed_out, finish_end, finish_run};
+ghost use Rattle.lines.specs.Code.{Lawful};
+
+use frames::ANSWER_MAX;
+
+// The places of a carry: one more than a frame has characters, so that a line is told from every frame, whatever follows.
+pub const CAP: usize = 1361;
 
 // How far a stream is: the place in the chunk up to which its bytes are taken, the place in the run of answers up to which it is
 // written, and how many places of the carry are in use.
-#[derive(Drop)]
+#[derive(Clone, Copy, Debug, PartialEq, Eq)]
 pub struct Progress {
     pub used: usize,
     pub made: usize,
@@ -33,138 +38,90 @@ pub fn feed(
     if !is_fit(chunk, at, carry, held, out, made) {
         return Progress {
             used: at,
-            made: made,
-            held: held,
+            made,
+            held,
         };
     }
     let end = line_end(chunk, at);
+    let bytes = &chunk[at..end];
     if end < chunk.len() {
-        let place = answer(chunk, at, end, carry, held, out, made);
-        return Progress {
+        Progress {
             used: end + 1,
-            made: place,
+            made: answer(bytes, carry, held, out, made),
             held: 0,
-        };
-    }
-    let kept = keep(chunk, at, end, carry, held);
-    Progress {
-        used: end,
-        made: made,
-        held: kept,
+        }
+    } else {
+        Progress {
+            used: end,
+            made,
+            held: keep(bytes, carry, held),
+        }
     }
 }
 
 // Answers a last line without its line end, if it has any character: writes the answer into `out` from `made` on, and answers the
 // place after it. Where the carry is not as `feed` leaves it, or fewer places are left than the longest answer takes, nothing is
 // changed.
+#[tactic(auto, unfolding(crate::specs::Lines::finish_end, crate::specs::Lines::finish_run))]
 pub fn finish(carry: &[u8], held: usize, out: &mut [u8], made: usize) -> usize
     ensures value { result ≡ finish_end carry.now held out.old made }
     ensures out_after { out.new ≡ finish_run carry.now held out.old made }
 {
-    if !is_carry(carry, held) {
-        return made;
-    }
-    if held == 0 {
+    if !is_carry(carry, held) || held == 0 {
         return made;
     }
     frames::respond(&carry[..held], out, made)
 }
 
 // Whether a call of `feed` does anything.
+#[tactic(auto, unfolding(crate::specs::Lines::fits), using(crate::proofs::Laws::Fits::room_left))]
 fn is_fit(chunk: &[u8], at: usize, carry: &[u8], held: usize, out: &[u8], made: usize) -> bool
     ensures { result ≡ fits chunk.now at carry.now held out.now made }
 {
-    if !is_carry(carry, held) {
-        return false;
-    }
-    if chunk.len() < at {
-        return false;
-    }
-    if out.len() < made {
-        return false;
-    }
-    346 <= out.len() - made
+    is_carry(carry, held) && at <= chunk.len() && ANSWER_MAX <= out.len().saturating_sub(made)
 }
 
 // Whether a carry is as long as it must be, with no more of it in use.
+#[tactic(auto, unfolding(crate::specs::Lines::is_carry, crate::specs::Lines::cap))]
 fn is_carry(carry: &[u8], held: usize) -> bool
     ensures { result ≡ is_carry carry.now held }
 {
-    if carry.len() != 1361 {
-        return false;
-    }
-    held <= 1361
+    carry.len() == CAP && held <= CAP
 }
 
 // The place of the next line end from `at` on, or the length.
 fn line_end(chunk: &[u8], at: usize) -> usize
     requires { at ≤ length chunk.now }
-    ensures { result ≡ end_from chunk.now at }
+    ensures value { result ≡ end_from chunk.now at }
+    ensures inside { (at ≤ result) × (result ≤ length chunk.now) }
 {
-    let mut i = at;
-    while i < chunk.len() {
-        if chunk[i] == 10 {
-            return i;
-        }
-        i += 1;
-    }
-    i
+    let rest = &chunk[at..];
+    at + rest.iter().position(|c| *c == b'\n').unwrap_or(rest.len())
 }
 
-// Answers the line that starts in the carry, if that has any of it, and ends with the bytes from `at` up to `end`. A line that
-// stands whole in the chunk is not copied.
-fn answer(
-    chunk: &[u8],
-    at: usize,
-    end: usize,
-    carry: &mut [u8],
-    held: usize,
-    out: &mut [u8],
-    made: usize,
-) -> usize
-    requires at_le_end { (at ≤ end) × (end ≤ length chunk.now) }
-    requires carry_len { (length carry.old ≡ cap) × (held ≤ cap) }
-    ensures value { result ≡ respond_end (take held carry.old ++ part chunk.now at end) out.old made }
-    ensures carry_after { carry.new ≡ answered_run carry.old held (part chunk.now at end) }
-    ensures out_after { out.new ≡ respond_run (take held carry.old ++ part chunk.now at end) out.old made }
+// Answers the line that starts in the carry, if that has any of it, and ends with `bytes`. A line that stands whole in the chunk is
+// not copied.
+fn answer(bytes: &[u8], carry: &mut [u8], held: usize, out: &mut [u8], made: usize) -> usize
+    requires carry { Lawful carry.old held }
+    ensures value { result ≡ respond_end (take held carry.old ++ bytes.now) out.old made }
+    ensures carry_after { carry.new ≡ answered_run carry.old held bytes.now }
+    ensures out_after { out.new ≡ respond_run (take held carry.old ++ bytes.now) out.old made }
 {
     if held == 0 {
-        return frames::respond(&chunk[at..end], out, made);
+        return frames::respond(bytes, out, made);
     }
-    let kept = keep(chunk, at, end, carry, held);
+    let kept = keep(bytes, carry, held);
     frames::respond(&carry[..kept], out, made)
 }
 
-// Keeps the bytes from `at` up to `end` after those that the carry has, up to its cap, and answers how many places are then in use.
-fn keep(chunk: &[u8], at: usize, end: usize, carry: &mut [u8], held: usize) -> usize
-    requires at_le_end { (at ≤ end) × (end ≤ length chunk.now) }
-    requires carry_len { (length carry.old ≡ cap) × (held ≤ cap) }
-    ensures value { result ≡ kept_held held (part chunk.now at end) }
-    ensures carry_after { carry.new ≡ kept_run carry.old held (part chunk.now at end) }
+// Keeps bytes after those that the carry has, up to its cap, and answers how many places are then in use.
+#[tactic(auto, unfolding(crate::specs::Lines::cap))]
+fn keep(bytes: &[u8], carry: &mut [u8], held: usize) -> usize
+    requires { Lawful carry.old held }
+    ensures value { result ≡ kept_held held bytes.now }
+    ensures carry_after { carry.new ≡ kept_run carry.old held bytes.now }
 {
-    let count = least(end - at, 1361 - held);
-    copy(chunk, at, carry, held, count);
+    let count = bytes.len().min(CAP - held);
+    carry[held..held + count].copy_from_slice(&bytes[..count]);
     held + count
-}
-
-fn least(a: usize, b: usize) -> usize
-    ensures { result ≡ min a b }
-{
-    if a < b {
-        return a;
-    }
-    b
-}
-
-// Copies `count` bytes from place `from` of one run to place `to` of another.
-fn copy(source: &[u8], from: usize, target: &mut [u8], to: usize, count: usize)
-    requires source_in_bounds { from + count ≤ length source.now }
-    requires target_in_bounds { to + count ≤ length target.old }
-    ensures { target.new ≡ paste target.old to (drop from source.now) count }
-{
-    let mut i = 0;
-    while i < count {
-        target[to + i] = source[from + i];
-        i += 1;
-    }
 }

@@ -5,7 +5,7 @@
 --     entered_row, entered_diagonal     the table after a row, and after the first j columns of the diagonal, are entered
 --     Reducible, Closable, Vectorable, Solvable     what Reduce, Close, the vector and the point ask
 --     Backable, Backs   what one earlier pivot column, and all of them, ask
-use Rattle.std.specs.Prelude.{◌≡◌, true, List, ℕ, zero, suc, ◌+◌, ◌*◌, ◌/◌, ◌%◌, ◌<◌, ◌≤◌, get_or, set, length, ℤ, pos, nat_abs}
+use Rattle.std.specs.Prelude.{◌≡◌, List, ℕ, zero, suc, ◌+◌, ◌*◌, ◌/◌, ◌%◌, ◌<◌, ◌≤◌, get_or, set, length, ℤ, pos, nat_abs}
 use Rattle.integers.specs.Range.{Positive}
 use Rattle.problem.specs.Rows.{Rows}
 use Rattle.problem.specs.WellFormed.{million}
@@ -80,8 +80,8 @@ pub record Backs (cells : List ℤ) (m : ℕ) (pivots : List ℕ) (count : ℕ) 
   pub bounded : Bounded cells
   pub row : (k : ℕ) → k < count → get_or pivots k 0 < 12
   pub pivot : (k : ℕ) → k < count → Positive (cell cells (get_or pivots k 0) k)
-  pub numerators : v.ok ≡ true → Bounded v.p
-  pub denominator : v.ok ≡ true → nat_abs v.q ≤ bound
+  pub numerators : Bounded v.p
+  pub denominator : nat_abs v.q ≤ bound
 
 pub record Solvable (s : State) : Type 0 where
   pub n_in : s.given.n ≤ 12

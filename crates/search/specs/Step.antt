@@ -23,7 +23,7 @@ use Rattle.integers.specs.Below.{all_below}
 use Rattle.integers.specs.Run.{tabulate}
 use Rattle.search.specs.Table.{bound, cell, subtract_column, subtraction_fits, swap_columns, negate_column}
 use Rattle.search.specs.State.{State, TooLarge, Refuted, Solved, const_of, z_of}
-use Rattle.search.specs.Vector.{Vector, vector_of}
+use Rattle.search.specs.Vector.{Vector, in_range, vector_of}
 
 -- The columns that a step takes ------------------------------------------------------------------------------------------
 
@@ -191,7 +191,7 @@ refute_by true s t v = record {
 
 unfoldable pub close_by : Bool → State → List ℤ → ℤ → State
 close_by true s t e = go_on_by (is_zero e) s t e
-close_by false s t e = let v = vector_of s t e in refute_by v.ok s t v
+close_by false s t e = let v = vector_of s t e in refute_by (in_range v) s t v
 
 unfoldable pub close_of : State → ℕ → State
 close_of s j =

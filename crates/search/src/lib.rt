@@ -1,7 +1,7 @@
 // The search: the paper's machine, one step at a time.
 #![tactic(auto)]
 
-ghost use Rattle.std.specs.Prelude.{◌≡◌, true, false, not, cond, ◌&&◌, ◌+◌, ◌*◌, ◌-◌, ◌<◌, ◌≤◌, ◌^◌, eqb, ltb, get_or, set, length, ℤ, pos, nat_abs, neg_ℤ, ◌-ℤ◌, ◌*ℤ◌};
+ghost use Rattle.std.specs.Prelude.{◌≡◌, true, false, not, cond, ◌&&◌, ℕ, ◌+◌, ◌*◌, ◌-◌, ◌<◌, ◌≤◌, ◌^◌, eqb, ltb, get_or, set, length, ℤ, pos, nat_abs, neg_ℤ, ◌-ℤ◌, ◌*ℤ◌};
 ghost use Rattle.std.specs.Int.Signed.{quot_z, rem_z};
 ghost use Rattle.integers.specs.Range.{within};
 ghost use Rattle.integers.specs.Gcd.{gcd_ℤ};
@@ -12,11 +12,11 @@ ghost use Rattle.integers.specs.Run.{at, tabulate};
 ghost use Rattle.problem.specs.Rows.{rows_of};
 ghost use Rattle.problem.specs.WellFormed.{million};
 ghost use Rattle.problem.specs.Lent.{lent};
-ghost use Rattle.search.specs.State.{own_column, upper_cell, start_table, start};
+ghost use Rattle.search.specs.State.{own_column, upper_cell, start_table, start, z_of};
 ghost use Rattle.search.specs.Table.{bound, cell, Bounded, less_times, subtract_column, subtraction_fits, swap_columns, negate_column};
-ghost use Rattle.search.specs.Vector.{checked, unit_vector, column_sum, back_one, back_from, vector_of};
-ghost use Rattle.search.specs.Step.{least, other, quotient, too_large, close_table, residual_of, passed, placed, solve_by, closed, refute_by, close_by, close_of, step_of};
-ghost use Rattle.search.specs.Run.{is_unfinished, after};
+ghost use Rattle.search.specs.Vector.{in_range, checked, unit_vector, column_sum, back_one, back_from, vector_of};
+ghost use Rattle.search.specs.Step.{least, other, quotient, too_large, close_table, residual_of, place_of, point_of, passed, placed, closed, close_by, close_of, step_of};
+ghost use Rattle.search.specs.Run.{after};
 ghost use Rattle.search.specs.Answer.{written_by, search_reply, search_vector, search_point, table_reply, table_run};
 ghost use Rattle.search.specs.Code.{largest_sum, last_count, entered_row, entered_diagonal, Sound, Backable, Backs, Solvable, Vectorable, Closable};
 
@@ -62,12 +62,11 @@ struct State {
     found: [i64; 12],
 }
 
-// Numerators and denominator on the way, and whether all are in range.
+// Numerators and denominator.
 #[derive(Clone, Copy)]
 struct Vector {
     p: [i64; 12],
     q: i64,
-    ok: bool,
 }
 
 // Searches with a budget of steps. A refuted problem's vector, or a solved one's point, is written into its run; all else is left
@@ -149,21 +148,17 @@ impl State {
 
     // As many steps as the budget allows, or as there are.
     #[tactic(auto, using(crate::proofs::Laws::Run::after_none, crate::proofs::Laws::Run::after_more, crate::proofs::Laws::Run::after_stops))]
-    fn run(self, budget: u32) -> State
+    fn run(mut self, budget: u32) -> State
         requires { Sound self × (self.steps ≡ 0) }
         ensures { result ≡ after budget self }
     {
-        let mut s = self;
-        let mut b: u32 = 0;
-        while b < budget {
-            let o = s.outcome;
-            if !is_unfinished(o) {
-                return s;
+        for _ in 0..budget {
+            if !matches!(self.outcome, Outcome::Unfinished) {
+                break;
             }
-            s = s.step();
-            b += 1;
+            self = self.step();
         }
-        s
+        self
     }
 
     // One step takes the state and hands the next one back.
@@ -171,22 +166,19 @@ impl State {
         requires { Sound self × (self.steps < last_count) }
         ensures { result ≡ step_of self }
     {
-        let row = self.row;
-        let lo = self.count;
-        let given = self.given;
-        let hi = given.width;
+        let (row, lo, hi) = (self.row, self.count, self.given.width);
         let first = least(&self.cells, row, lo, hi);
         let second = other(&self.cells, row, first, lo, hi);
         if second == first {
             return self.close(first);
         }
         let q = quotient(get(&self.cells, row, second), get(&self.cells, row, first));
-        if subtraction_fits(&self.cells, first, second, q) {
-            subtract_column(&mut self.cells, first, second, q);
-            self.steps += 1;
-            return self;
+        if !subtraction_fits(&self.cells, first, second, q) {
+            return self.too_large();
         }
-        self.too_large()
+        subtract_column(&mut self.cells, first, second, q);
+        self.steps += 1;
+        self
     }
 
     // Close. The entry that becomes the pivot, and the residual, are known before any column is swapped.
@@ -195,34 +187,25 @@ impl State {
         ensures { result ≡ close_of self j }
     {
         let row = self.row;
-        let count = self.count;
-        let given = self.given;
-        let consts = given.consts;
-        let zs = self.zs;
-        let e = positive(get(&self.cells, row, j));
-        let r = less(consts[row], row_dot(&self.cells, &zs, row, count));
+        let e = get(&self.cells, row, j).abs();
+        let r = self.residual();
         if !integers::divides(e, r) {
             return self.refute(j, e);
         }
-        if row + 1 == given.m {
+        if row + 1 == self.given.m {
             return self.close_last(j, e, r);
         }
-        if integers::is_zero(e) {
-            self.row += 1;
-            self.steps += 1;
+        if e == 0 {
+            self.pass();
             return self;
         }
-        let z = divided(r, e);
-        if in_bound(z) {
-            close_table(&mut self.cells, row, j, count);
-            self.pivots[count] = row;
-            self.zs[count] = z;
-            self.row += 1;
-            self.count += 1;
-            self.steps += 1;
-            return self;
+        let z = r / e;
+        if !in_bound(z) {
+            return self.too_large();
         }
-        self.too_large()
+        close_table(&mut self.cells, row, j, self.count);
+        self.place(z);
+        self
     }
 
     // The current row refutes, with pivot e or with none.
@@ -230,14 +213,18 @@ impl State {
         requires { Closable self j }
         ensures { result ≡ close_by false self (close_table self.cells self.row j self.count) e }
     {
-        let mut t = self.cells;
-        close_table(&mut t, self.row, j, self.count);
-        let v = self.vector(t, e);
-        let ok = v.ok;
-        if ok {
-            return self.refuted(t, v);
+        let mut next = self;
+        close_table(&mut next.cells, self.row, j, self.count);
+        let Some(v) = next.vector(e) else {
+            return self.too_large();
+        };
+        let found = v.p;
+        State {
+            steps: self.steps + 1,
+            outcome: Outcome::Refuted(v.q),
+            found,
+            ..next
         }
-        self.too_large()
     }
 
     // The last row closes, with pivot e that divides the residual r, or with neither.
@@ -245,18 +232,18 @@ impl State {
         requires { Closable self j × (r ≡ residual_of self (close_table self.cells self.row j self.count)) }
         ensures { result ≡ close_by true self (close_table self.cells self.row j self.count) e }
     {
-        let mut t = self.cells;
-        close_table(&mut t, self.row, j, self.count);
-        if integers::is_zero(e) {
-            let next = self.passed(t);
+        let mut next = self;
+        close_table(&mut next.cells, self.row, j, self.count);
+        if e == 0 {
+            next.pass();
             return self.closed(next);
         }
-        let z = divided(r, e);
-        if in_bound(z) {
-            let next = self.placed(t, z);
-            return self.closed(next);
+        let z = r / e;
+        if !in_bound(z) {
+            return self.too_large();
         }
-        self.too_large()
+        next.place(z);
+        self.closed(next)
     }
 
     // The state `next` has closed a row of this one; the last row solves.
@@ -264,163 +251,107 @@ impl State {
         requires { Solvable next × (self.steps < last_count) }
         ensures { result ≡ closed self next }
     {
-        let given = next.given;
-        let m = given.m;
-        if next.row == m {
-            let cells = next.cells;
-            let zs = next.zs;
-            let x = point(&cells, &zs, given.n, next.count);
-            if all_small(&x, given.n) {
-                return next.solved();
-            }
+        if next.row != next.given.m {
+            return next;
+        }
+        let found = next.point();
+        if !integers::all_within(268435456, &found[..next.given.n]) {
             return self.too_large();
         }
-        next
+        State {
+            outcome: Outcome::Solved,
+            found,
+            ..next
+        }
     }
 
-    // The vector of the current row, which refutes with pivot e or with none; t is its table.
-    fn vector(self, t: [i64; 864], e: i64) -> Vector
-        requires { Vectorable self t }
-        ensures { result ≡ vector_of self t e }
+    // The sum of entry times z over the pivot columns of a row: of the residual, and a place of the point.
+    fn row_sum(&self, row: usize) -> i64
+        requires { (row < 36) × (self.now.count ≤ 12) × Bounded self.now.cells × Bounded self.now.zs }
+        ensures { result ≡ dot self.now.count (cell self.now.cells row) (z_of self.now) }
     {
-        let given = self.given;
-        let pivots = self.pivots;
-        let m = given.m;
-        let v = back_from(&t, m, &pivots, self.count, unit_vector(self.row, e));
-        let ok = v.ok;
-        if both(ok, integers::is_zero(e)) {
-            let p = v.p;
-            let d = given.consts;
-            let s = constant_sum(&p, &d, m);
-            return checked(p, non_divisor(s));
+        dot(self.count, |k| get(&self.cells, row, k), |k| self.zs[k])
+    }
+
+    // The residual of the current row.
+    #[tactic(auto, unfolding(crate::specs::Step::residual_of))]
+    fn residual(&self) -> i64
+        requires places { (self.now.row < 12) × (self.now.count ≤ 12) }
+        requires bounds { Bounded self.now.cells × Bounded self.now.zs × Bounded self.now.given.consts }
+        ensures { result ≡ residual_of self.now self.now.cells }
+    {
+        self.given.consts[self.row] - self.row_sum(self.row)
+    }
+
+    // The point, 0 past the last variable.
+    fn point(&self) -> [i64; 12]
+        requires { Solvable self.now }
+        ensures { result ≡ point_of self.now }
+    {
+        array::from_fn(|k| self.point_at(k))
+    }
+
+    #[tactic(auto, unfolding(crate::specs::Step::place_of))]
+    fn point_at(&self, k: usize) -> i64
+        requires { Solvable self.now × (k < 12) }
+        ensures { result ≡ cond (ltb k self.now.given.n) (place_of self.now k) (pos 0) }
+    {
+        if k < self.given.n {
+            self.row_sum(12 + k)
+        } else {
+            0
         }
-        v
+    }
+
+    // The vector of the current row, which refutes with pivot e or with none, unless a number on the way to it is out of range.
+    fn vector(&self, e: i64) -> Option<Vector>
+        requires { Vectorable self.now self.now.cells }
+        ensures { result ≡ checked (vector_of self.now self.now.cells e) }
+    {
+        let m = self.given.m;
+        let first = unit_vector(self.row, e)?;
+        let v = back_from(&self.cells, m, &self.pivots, self.count, first)?;
+        if e != 0 {
+            return Some(v);
+        }
+        let s = constant_sum(&v.p, &self.given.consts, m);
+        checked(v.p, non_divisor(s))
     }
 
     // The step counts, and all else stays.
+    #[tactic(auto, unfolding(crate::specs::Step::too_large))]
     fn too_large(self) -> State
         requires { self.steps < last_count }
         ensures { result ≡ too_large self }
     {
-        let given = self.given;
-        let cells = self.cells;
-        let pivots = self.pivots;
-        let zs = self.zs;
-        let found = self.found;
         State {
-            given: given,
-            cells: cells,
-            row: self.row,
-            count: self.count,
-            pivots: pivots,
-            zs: zs,
             steps: self.steps + 1,
             outcome: Outcome::TooLarge,
-            found: found,
+            ..self
         }
     }
 
     // The current row is closed without pivot.
-    fn passed(self, t: [i64; 864]) -> State
-        requires { (self.row < 36) × (self.steps < last_count) }
-        ensures { result ≡ passed self t }
+    #[tactic(auto, unfolding(crate::specs::Step::passed))]
+    fn pass(&mut self)
+        requires { (self.old.row < 36) × (self.old.steps < last_count) }
+        ensures { self.new ≡ passed self.old self.old.cells }
     {
-        let given = self.given;
-        let pivots = self.pivots;
-        let zs = self.zs;
-        let found = self.found;
-        let outcome = self.outcome;
-        State {
-            given: given,
-            cells: t,
-            row: self.row + 1,
-            count: self.count,
-            pivots: pivots,
-            zs: zs,
-            steps: self.steps + 1,
-            outcome: outcome,
-            found: found,
-        }
+        self.row += 1;
+        self.steps += 1;
     }
 
     // The current row is closed with a pivot, whose z is known.
-    fn placed(self, t: [i64; 864], z: i64) -> State
-        requires { (self.row < 36) × (self.count < 12) × (self.steps < last_count) }
-        ensures { result ≡ placed self t z }
+    #[tactic(auto, unfolding(crate::specs::Step::placed))]
+    fn place(&mut self, z: i64)
+        requires { (self.old.row < 36) × (self.old.count < 12) × (self.old.steps < last_count) }
+        ensures { self.new ≡ placed self.old self.old.cells z }
     {
-        let given = self.given;
-        let mut pivots = self.pivots;
-        let mut zs = self.zs;
-        let found = self.found;
-        let outcome = self.outcome;
-        let count = self.count;
-        pivots[count] = self.row;
-        zs[count] = z;
-        State {
-            given: given,
-            cells: t,
-            row: self.row + 1,
-            count: count + 1,
-            pivots: pivots,
-            zs: zs,
-            steps: self.steps + 1,
-            outcome: outcome,
-            found: found,
-        }
-    }
-
-    fn solved(self) -> State
-        requires { Solvable self }
-        ensures { result ≡ solve_by true self self }
-    {
-        let given = self.given;
-        let cells = self.cells;
-        let pivots = self.pivots;
-        let zs = self.zs;
-        let found = point(&cells, &zs, given.n, self.count);
-        State {
-            given: given,
-            cells: cells,
-            row: self.row,
-            count: self.count,
-            pivots: pivots,
-            zs: zs,
-            steps: self.steps,
-            outcome: Outcome::Solved,
-            found: found,
-        }
-    }
-
-    fn refuted(self, t: [i64; 864], v: Vector) -> State
-        requires { (self.steps < last_count) × (nat_abs v.q ≤ million) }
-        ensures { result ≡ refute_by true self t v }
-    {
-        let given = self.given;
-        let pivots = self.pivots;
-        let zs = self.zs;
-        let found = v.p;
-        State {
-            given: given,
-            cells: t,
-            row: self.row,
-            count: self.count,
-            pivots: pivots,
-            zs: zs,
-            steps: self.steps + 1,
-            outcome: Outcome::Refuted(v.q),
-            found: found,
-        }
-    }
-}
-
-fn is_unfinished(o: Outcome) -> bool
-    ensures { result ≡ is_unfinished o }
-{
-    match o {
-        Outcome::Unfinished => true,
-        Outcome::TooLarge => false,
-        Outcome::Refuted(q) => false,
-        Outcome::Solved => false,
+        self.pivots[self.count] = self.row;
+        self.zs[self.count] = z;
+        self.row += 1;
+        self.count += 1;
+        self.steps += 1;
     }
 }
 
@@ -512,127 +443,54 @@ fn close_table(cells: &mut [i64; 864], row: usize, j: usize, r: usize)
     ensures { cells.new ≡ close_table cells.old row j r }
 {
     let e = get(cells, row, j);
-    if integers::is_zero(e) {
+    if e == 0 {
         return;
     }
     swap_columns(cells, j, r);
-    if integers::is_negative(e) {
+    if e < 0 {
         negate_column(cells, r);
     }
 }
 
 // ---- Sums
 
-// The sum of entry times z over the pivot columns of a row: of the residual, and a place of the point.
-fn row_dot(cells: &[i64; 864], zs: &[i64; 12], row: usize, count: usize) -> i64
-    requires { (row < 36) × (count ≤ 12) × Bounded cells.now × Bounded zs.now }
-    ensures { result ≡ dot count (cell cells.now row) (at zs.now) }
+// The sum of x times y over the places below m.
+fn dot<X: Fn(usize) -> i64, Y: Fn(usize) -> i64>(m: usize, x: X, y: Y) -> i64
+    requires few { m ≤ 12 }
+    requires first { (k : ℕ) → k < m → X.pre x k × ((r : ℤ) → X.post x k r → nat_abs r ≤ bound) }
+    requires second { (k : ℕ) → k < m → Y.pre y k × ((r : ℤ) → Y.post y k r → nat_abs r ≤ bound) }
+    ensures { (f g : ℕ → ℤ) → ((k : ℕ) (r : ℤ) → k < m → X.post x k r → r ≡ f k) → ((k : ℕ) (r : ℤ) → k < m → Y.post y k r → r ≡ g k) → result ≡ dot m f g }
 {
-    let mut s: i64 = 0;
-    let mut k: usize = 0;
-    while k < count {
-        s += cells[row * 24 + k] * zs[k];
-        k += 1;
+    let mut sum: i64 = 0;
+    for k in 0..m {
+        sum += x(k) * y(k);
     }
-    s
-}
-
-// The sum of numerator times entry in a column.
-fn column_sum(cells: &[i64; 864], p: &[i64; 12], m: usize, k: usize) -> i64
-    requires { (k < 24) × (m ≤ 12) × Bounded cells.now × Bounded p.now }
-    ensures { result ≡ column_sum m cells.now p.now k }
-{
-    let mut s: i64 = 0;
-    let mut i: usize = 0;
-    while i < m {
-        s += p[i] * cells[i * 24 + k];
-        i += 1;
-    }
-    s
-}
-
-// The sum of numerator times constant.
-fn constant_sum(p: &[i64; 12], d: &[i64; 12], m: usize) -> i64
-    requires { (m ≤ 12) × Bounded p.now × Bounded d.now }
-    ensures { result ≡ dot m (at p.now) (at d.now) }
-{
-    let mut s: i64 = 0;
-    let mut i: usize = 0;
-    while i < m {
-        s += p[i] * d[i];
-        i += 1;
-    }
-    s
-}
-
-// ---- The point
-
-fn point(cells: &[i64; 864], zs: &[i64; 12], n: usize, count: usize) -> [i64; 12]
-    requires { (n ≤ 12) × (count ≤ 12) × Bounded cells.now × Bounded zs.now }
-    ensures { result ≡ tabulate 12 (λ k. cond (ltb k n) (dot count (cell cells.now (12 + k)) (at zs.now)) (pos 0)) }
-{
-    let mut out: [i64; 12] = [0; 12];
-    let mut k: usize = 0;
-    while k < n {
-        out[k] = row_dot(cells, zs, 12 + k, count);
-        k += 1;
-    }
-    out
-}
-
-fn all_small(x: &[i64; 12], n: usize) -> bool
-    requires { n ≤ 12 }
-    ensures { result ≡ all_below n (λ k. within bound (at x.now k)) }
-{
-    let mut k: usize = 0;
-    while k < n {
-        if !in_bound(x[k]) {
-            return false;
-        }
-        k += 1;
-    }
-    true
+    sum
 }
 
 // ---- The vector
 
-fn unit_vector(i: usize, e: i64) -> Vector
+fn unit_vector(i: usize, e: i64) -> Option<Vector>
     requires { i < 12 }
-    ensures { result ≡ unit_vector i e }
+    ensures { result ≡ checked (unit_vector i e) }
 {
     let mut p: [i64; 12] = [0; 12];
     p[i] = 1;
-    if integers::is_zero(e) {
+    if e == 0 {
         return checked(p, 1);
     }
     checked(p, e)
 }
 
-// A vector, and whether all of its numbers are in range.
-fn checked(p: [i64; 12], q: i64) -> Vector
-    ensures { result ≡ checked p q }
+// The vector, if all of its numbers are in range.
+fn checked(p: [i64; 12], q: i64) -> Option<Vector>
+    ensures { result ≡ checked (record { p = p; q = q }) }
 {
-    let ok = both(all_in_range(&p), integers::within(1000000, q));
-    Vector { p: p, q: q, ok: ok }
-}
-
-fn all_in_range(p: &[i64; 12]) -> bool
-    ensures { result ≡ all_below 12 (λ i. within million (at p.now i)) }
-{
-    let mut i: usize = 0;
-    while i < 12 {
-        if !integers::within(1000000, p[i]) {
-            return false;
-        }
-        i += 1;
+    if integers::all_within(1000000, &p) && integers::within(1000000, q) {
+        Some(Vector { p, q })
+    } else {
+        None
     }
-    true
-}
-
-fn both(first: bool, second: bool) -> bool
-    ensures { result ≡ first && second }
-{
-    if first { second } else { false }
 }
 
 // Back over the pivot columns from the last to the first, as long as every number is in range.
@@ -642,45 +500,54 @@ fn back_from(
     pivots: &[usize; 12],
     count: usize,
     first: Vector,
-) -> Vector
-    requires { Backs cells.now m pivots.now count first }
-    ensures { result ≡ back_from count m cells.now (λ k. get_or pivots.now k 0) first }
+) -> Option<Vector>
+    requires { Backs cells.now m pivots.now count first × (in_range first ≡ true) }
+    ensures { result ≡ checked (back_from count m cells.now (λ k. get_or pivots.now k 0) first) }
 {
     let mut v = first;
-    let mut k = count;
-    while k > 0 {
-        let ok = v.ok;
-        if !ok {
-            return v;
-        }
-        k -= 1;
-        let i = pivots[k];
-        v = back_one(cells, m, i, k, v);
+    for k in (0..count).rev() {
+        v = back_one(cells, m, pivots[k], k, v)?;
     }
-    v
+    Some(v)
 }
 
 // One pivot column back. With g the gcd of s and e, the factor is e / g and the new numerator -s / g.
-fn back_one(cells: &[i64; 864], m: usize, i: usize, k: usize, v: Vector) -> Vector
+fn back_one(cells: &[i64; 864], m: usize, i: usize, k: usize, v: Vector) -> Option<Vector>
     requires { Backable cells.now m i k v }
-    ensures { result ≡ back_one m cells.now i k v }
+    ensures { result ≡ checked (back_one m cells.now i k v) }
 {
-    let p = v.p;
-    let s = column_sum(cells, &p, m, k);
+    let s = column_sum(cells, &v.p, m, k);
     let e = get(cells, i, k);
     let g = common_divisor(s, e);
-    let f = divided(e, g);
-    let x = minus(divided(s, g));
-    let mut next = scaled(p, f);
-    next[i] = x;
-    checked(next, times(f, v.q))
+    let f = e / g;
+    let mut p = scaled(v.p, f);
+    p[i] = -(s / g);
+    let q = times(f, v.q);
+    checked(p, q)
+}
+
+// The sum of numerator times entry in a column.
+#[tactic(auto, unfolding(crate::specs::Vector::column_sum))]
+fn column_sum(cells: &[i64; 864], p: &[i64; 12], m: usize, k: usize) -> i64
+    requires { (k < 24) × (m ≤ 12) × Bounded cells.now × Bounded p.now }
+    ensures { result ≡ column_sum m cells.now p.now k }
+{
+    dot(m, |i| p[i], |i| get(cells, i, k))
+}
+
+// The sum of numerator times constant.
+fn constant_sum(p: &[i64; 12], d: &[i64; 12], m: usize) -> i64
+    requires { (m ≤ 12) × Bounded p.now × Bounded d.now }
+    ensures { result ≡ dot m (at p.now) (at d.now) }
+{
+    dot(m, |i| p[i], |i| d[i])
 }
 
 fn common_divisor(s: i64, e: i64) -> i64
     requires { (nat_abs s < 2 ^ 62) × (nat_abs e ≤ bound) }
     ensures { result ≡ gcd_ℤ s e }
 {
-    integers::gcd(integers::magnitude(s), integers::magnitude(e)) as i64
+    integers::gcd(s.unsigned_abs(), e.unsigned_abs()) as i64
 }
 
 // All numerators times f.
@@ -688,13 +555,14 @@ fn scaled(p: [i64; 12], f: i64) -> [i64; 12]
     requires { (nat_abs f ≤ bound) × Bounded p }
     ensures { result ≡ tabulate 12 (λ i. f *ℤ at p i) }
 {
-    let mut out = p;
-    let mut i: usize = 0;
-    while i < 12 {
-        out[i] = f * out[i];
-        i += 1;
-    }
-    out
+    array::from_fn(|i| times(f, p[i]))
+}
+
+fn times(x: i64, y: i64) -> i64
+    requires { (nat_abs x ≤ bound) × (nat_abs y ≤ bound) }
+    ensures { result ≡ x *ℤ y }
+{
+    x * y
 }
 
 // The smallest number from 2 up that does not divide s; 2 for 0, which every number divides.
@@ -702,7 +570,7 @@ fn non_divisor(s: i64) -> i64
     requires { nat_abs s < 2 ^ 62 }
     ensures { result ≡ pos (non_divisor s) }
 {
-    if integers::is_zero(s) {
+    if s == 0 {
         return 2;
     }
     let mut q: i64 = 2;
@@ -738,42 +606,6 @@ fn remainder(y: i64, x: i64) -> i64
     ensures result_bound { 2 * nat_abs result < nat_abs y }
 {
     y % x
-}
-
-fn divided(s: i64, g: i64) -> i64
-    requires { (nat_abs s < 2 ^ 62) × (0 < nat_abs g) }
-    ensures { result ≡ quot_z s g }
-{
-    s / g
-}
-
-fn less(d: i64, s: i64) -> i64
-    requires { (nat_abs d ≤ bound) × (nat_abs s ≤ largest_sum) }
-    ensures { result ≡ d -ℤ s }
-{
-    d - s
-}
-
-fn times(x: i64, y: i64) -> i64
-    requires { (nat_abs x ≤ bound) × (nat_abs y ≤ bound) }
-    ensures { result ≡ x *ℤ y }
-{
-    x * y
-}
-
-// The magnitude.
-fn positive(x: i64) -> i64
-    requires { nat_abs x ≤ bound }
-    ensures { result ≡ pos (nat_abs x) }
-{
-    integers::magnitude(x) as i64
-}
-
-fn minus(x: i64) -> i64
-    requires { nat_abs x < 2 ^ 62 }
-    ensures { result ≡ neg_ℤ x }
-{
-    -x
 }
 
 // ---- The start

@@ -2,7 +2,7 @@
 // C program.
 #![tactic(auto)]
 
-ghost use Rattle.std.specs.Prelude.{◌≡◌};
+ghost use Rattle.std.specs.Prelude.{◌≡◌, Ok, Err};
 ghost use Rattle.checker.specs.Answer.{judge_answer, judge_run};
 ghost use Rattle.search.specs.Answer.{search_reply, search_vector, search_point, table_reply, table_run, table_number};
 ghost use Rattle.frames.specs.Answer.{respond_end, respond_run};

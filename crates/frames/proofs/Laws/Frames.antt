@@ -3,24 +3,26 @@
 --     Lengths    refutation_length  point_length  unfinished_length  interpolant_length  refusal-length
 --     Answers    answer_refused     a line that is refused before any search: frame 06 with that number
 --                answer_problem     any other: the answer to its problem
---                answer_fact        the checker states a fact          answer_unstated    the checker refuses
---                answer_reply       what the search replies and leaves gives the answer to the problem
---                answer_lines       the runs that a problem is searched with
+--                answer_judged      what the checker answers and leaves gives the answer to a refuted problem
+--                answer_searched    what the search answers and leaves gives the answer to the problem
+--                answer_lines       the problem that a line is read as
 --
 -- Assumes nothing.
-use mathlib.Core.Path.{◌≡◌, refl, sym, ◌∙◌, ap, ap₂}
-use mathlib.Core.List.{List, ◌++◌}
-use Prim.Native.Nat.{ℕ, zero, suc, ◌+◌, ◌*◌}
+use mathlib.Core.Path.{◌≡◌, sym, ◌∙◌, ap, ap₂}
+use mathlib.Core.List.{List}
+use Prim.Native.Nat.{ℕ, ◌+◌, ◌*◌}
 use native.Mathlib.Omega.{arith}
 use lib.ListN.{length, length-append}
 use lib.IntN.{ℤ}
+use Rattle.std.specs.Prelude.{Option, Some, None, Result}
+use Rattle.problem.specs.declared.Refusal.{Refusal}
+use Rattle.problem.specs.Refusal.{number_of}
 use Rattle.checker.specs.Answer.{judge_answer, judge_run}
-use Rattle.checker.specs.declared.Answer.{Answer}
-use Rattle.checker.specs.declared.Answer.TheVariants.{Fact, Refused as Unstated}
+use Rattle.checker.specs.declared.Fact.{Fact}
 use Rattle.search.specs.Answer.{search_reply, search_vector, search_point}
-use Rattle.search.specs.declared.Reply.{Reply}
-use Rattle.frames.specs.Hex.{value_at}
-use Rattle.frames.specs.Problem.{line_refusal, n_of, ma_of, mb_of, budget_of, side_long, numbers_at}
+use Rattle.search.specs.declared.Answer.{Answer}
+use Rattle.frames.specs.declared.Head.{Head}
+use Rattle.frames.specs.Problem.{line_refusal, side_long, numbers_at, head_of}
 use Rattle.frames.specs.Answer.{refutation_frame, point_frame, unfinished_frame, interpolant_frame, refusal_frame, fact_answer, refuted_answer, reply_answer, problem_answer, zeros, problem_lines, answer_by, answer_of}
 use Rattle.frames.proofs.Laws.Hex.{hex-length, hexes-length}
 
@@ -48,63 +50,42 @@ refusal-length number steps = simp (length-append, hex-length)
 
 -- Answers --------------------------------------------------------------------------------------------------------------
 
-refused : (k : ℕ) (lines : List ℕ) → (k ≡ 0 → ⊥) → refusal_frame k 0 ≡ answer_by k lines
-refused zero lines h = absurd (h refl)
-refused (suc k) lines h = refl
-
 module _ (l : List ℕ) where
-  pub answer_refused : (k : ℕ) → k ≡ line_refusal l → (k ≡ 0 → ⊥) → refusal_frame k 0 ≡ answer_of l
+  pub answer_refused : (k : Refusal) → Some k ≡ line_refusal l → refusal_frame (number_of k) 0 ≡ answer_of l
   unfolding answer_of
-  answer_refused k e h = refused k (problem_lines l) h ∙ ap (λ (k : ℕ). answer_by k (problem_lines l)) e
+  answer_refused k e = ap (λ (k : Option Refusal). answer_by k (problem_lines l)) e
 
-  pub answer_problem : line_refusal l ≡ 0 → problem_lines l ≡ answer_of l
+  pub answer_problem : line_refusal l ≡ None → problem_lines l ≡ answer_of l
   unfolding answer_of
-  answer_problem e = ap (λ (k : ℕ). answer_by k (problem_lines l)) (sym e)
+  answer_problem e = ap (λ (k : Option Refusal). answer_by k (problem_lines l)) (sym e)
 
-module _ (n ma mb : ℕ) (a b vector coeffs : List ℤ) (steps : ℕ) (r : Answer) {q q' : ℤ} (is-q : q' ≡ q) (is-r : r ≡ judge_answer n ma mb a b q' vector coeffs) where
-  abbrev run : ℤ → List ℤ
-  run q = judge_run n ma mb a b q vector coeffs
+module _ (n ma mb : ℕ) (a b vector coeffs : List ℤ) (steps : ℕ) {q q' : ℤ} (is-q : q' ≡ q) where
+  -- what the checker answers and leaves gives the answer
+  pub answer_judged : (r : Result Fact Refusal) (left : List ℤ) → r ≡ judge_answer n ma mb a b q' vector coeffs → left ≡ judge_run n ma mb a b q' vector coeffs →
+      fact_answer r n (ma + mb) steps q' vector left ≡ refuted_answer q steps n ma mb a b vector coeffs
+  answer_judged r left e f =
+      ap₂ (λ (r : Result Fact Refusal) (left : List ℤ). fact_answer r n (ma + mb) steps q' vector left) e f
+      ∙ ap (λ (q : ℤ). refuted_answer q steps n ma mb a b vector coeffs) is-q
 
-  given : (x : Answer) → r ≡ x → fact_answer x n (ma + mb) steps q vector (run q) ≡ refuted_answer q steps n ma mb a b vector coeffs
-  given x e = ap (λ (x : Answer). fact_answer x n (ma + mb) steps q vector (run q)) (sym e ∙ is-r ∙ ap (λ (q : ℤ). judge_answer n ma mb a b q vector coeffs) is-q)
-
-  pub answer_fact : (left : List ℤ) {x y x' y' : ℤ} → r ≡ Fact x y → left ≡ run q' → x' ≡ x → y' ≡ y →
-      refutation_frame steps (ma + mb) q' vector ++ interpolant_frame n left x' y' ≡ refuted_answer q steps n ma mb a b vector coeffs
-  answer_fact left {x} {y} {x'} {y'} e is-left is_x is_y =
-      ap₂ (λ (q : ℤ) (left : List ℤ). refutation_frame steps (ma + mb) q vector ++ interpolant_frame n left x' y') is-q (is-left ∙ ap run is-q)
-      ∙ ap₂ (λ (x y : ℤ). refutation_frame steps (ma + mb) q vector ++ interpolant_frame n (run q) x y) is_x is_y
-      ∙ given (Fact x y) e
-
-  pub answer_unstated : (k : ℕ) → r ≡ Unstated k → refusal_frame k 0 ≡ refuted_answer q steps n ma mb a b vector coeffs
-  answer_unstated k e = given (Unstated k) e
-
-module _ (n ma mb : ℕ) (vector point coeffs : List ℤ) where
-  replied : (a b : List ℤ) (t : ℕ) (r : Reply) (v p : List ℤ) → r ≡ search_reply n ma mb a b t vector point → v ≡ search_vector n ma mb a b t vector point →
+module _ (n ma mb : ℕ) (a b : List ℤ) (t : ℕ) {vector point : List ℤ} (is-vector : vector ≡ zeros (ma + mb)) (is-point : point ≡ zeros n) where
+  answered : (vector point coeffs : List ℤ) (r : Result Answer Refusal) (v p : List ℤ) → r ≡ search_reply n ma mb a b t vector point → v ≡ search_vector n ma mb a b t vector point →
       p ≡ search_point n ma mb a b t vector point → reply_answer r n ma mb a b v p coeffs ≡ problem_answer n ma mb a b t vector point coeffs
   unfolding problem_answer
-  replied a b t r v p e f g =
-      ap (λ (r : Reply). reply_answer r n ma mb a b v p coeffs) e
+  answered vector point coeffs r v p e f g =
+      ap (λ (r : Result Answer Refusal). reply_answer r n ma mb a b v p coeffs) e
       ∙ ap₂ (λ (v p : List ℤ). reply_answer (search_reply n ma mb a b t vector point) n ma mb a b v p coeffs) f g
 
-  pub answer_reply : {a b a' b' : List ℤ} {t t' : ℕ} (r : Reply) (v p : List ℤ) → a' ≡ a → b' ≡ b → t' ≡ t → r ≡ search_reply n ma mb a' b' t' vector point →
-      v ≡ search_vector n ma mb a' b' t' vector point → p ≡ search_point n ma mb a' b' t' vector point →
-      reply_answer r n ma mb a' b' v p coeffs ≡ problem_answer n ma mb a b t vector point coeffs
-  answer_reply {a} {b} {a'} {b'} {t} {t'} r v p is_a is_b is-t e f g =
-      replied a' b' t' r v p e f g ∙ ap₂ (λ (a b : List ℤ). problem_answer n ma mb a b t' vector point coeffs) is_a is_b
-      ∙ ap (λ (t : ℕ). problem_answer n ma mb a b t vector point coeffs) is-t
+  -- what the search answers and leaves gives the answer
+  pub answer_searched : (r : Result Answer Refusal) (v p : List ℤ) → r ≡ search_reply n ma mb a b t vector point → v ≡ search_vector n ma mb a b t vector point →
+      p ≡ search_point n ma mb a b t vector point → reply_answer r n ma mb a b v p (zeros n) ≡ problem_answer n ma mb a b t (zeros (ma + mb)) (zeros n) (zeros n)
+  answer_searched r v p e f g =
+      answered vector point (zeros n) r v p e f g ∙ ap₂ (λ (v p : List ℤ). problem_answer n ma mb a b t v p (zeros n)) is-vector is-point
 
 module _ (l : List ℕ) where
-  -- with runs of the lengths that the counts ask for
-  abbrev counted : ℕ → ℕ → ℕ → List ℕ
-  counted n ma mb =
-      problem_answer n ma mb (numbers_at l 16 (side_long n ma)) (numbers_at l (16 + side_long n ma * 8) (side_long n mb)) (budget_of l) (zeros (ma + mb)) (zeros n) (zeros n)
-
-  pub answer_lines : {n ma mb : ℕ} (long-a long-b : ℕ) (vector point coeffs : List ℤ) → n ≡ n_of l → ma ≡ ma_of l → mb ≡ mb_of l →
-      long-a ≡ side_long n ma → long-b ≡ side_long n mb → vector ≡ zeros (ma + mb) → point ≡ zeros n → coeffs ≡ zeros n →
-      problem_answer n ma mb (numbers_at l 16 long-a) (numbers_at l (16 + long-a * 8) long-b) (value_at l 8 8) vector point coeffs ≡ problem_lines l
+  -- the two sides have the lengths that the counts ask for
+  pub answer_lines : (h : Head) (a b : List ℤ) → h ≡ head_of l → a ≡ numbers_at l 16 (side_long h.n h.ma) → b ≡ numbers_at l (16 + side_long h.n h.ma * 8) (side_long h.n h.mb) →
+      problem_answer h.n h.ma h.mb a b h.budget (zeros (h.ma + h.mb)) (zeros h.n) (zeros h.n) ≡ problem_lines l
   unfolding problem_lines
-  answer_lines {n} {ma} {mb} long-a long-b vector point coeffs is_n is_ma is_mb is_a is_b is-vector is-point is-coeffs =
-      ap₂ (λ (la lb : ℕ). problem_answer n ma mb (numbers_at l 16 la) (numbers_at l (16 + la * 8) lb) (budget_of l) vector point coeffs) is_a is_b
-      ∙ ap₂ (λ (v p : List ℤ). problem_answer n ma mb (numbers_at l 16 (side_long n ma)) (numbers_at l (16 + side_long n ma * 8) (side_long n mb)) (budget_of l) v p coeffs) is-vector is-point
-      ∙ ap (problem_answer n ma mb (numbers_at l 16 (side_long n ma)) (numbers_at l (16 + side_long n ma * 8) (side_long n mb)) (budget_of l) (zeros (ma + mb)) (zeros n)) is-coeffs
-      ∙ ap₂ (λ (n ma : ℕ). counted n ma mb) is_n is_ma ∙ ap (counted (n_of l) (ma_of l)) is_mb
+  answer_lines h a b e f g =
+      ap₂ (λ (a b : List ℤ). problem_answer h.n h.ma h.mb a b h.budget (zeros (h.ma + h.mb)) (zeros h.n) (zeros h.n)) f g
+      ∙ ap (λ (h : Head). problem_answer h.n h.ma h.mb (numbers_at l 16 (side_long h.n h.ma)) (numbers_at l (16 + side_long h.n h.ma * 8) (side_long h.n h.mb)) h.budget (zeros (h.ma + h.mb)) (zeros h.n) (zeros h.n)) e

@@ -1,28 +1,59 @@
 -- What the refusals before any search say.
 --
 --     small           a side of at most 12 rows over at most 12 variables has at most 168 numbers
+--     fold_digits     a fold over a line
 --     frame_tests, problem_tests     what the tests of a frame, and of its counts, decide
 --     frame_long      a frame has at least 16 characters          frame_digits    all of them digits
 --     Lawful l        all are digits, the counts are small, and the length of l is what they say
 --     lawful          a line that is not refused is Lawful         taken    a frame with right counts is not refused
---     Fit             the same of counts as the code has them, and of the two sides that they give
---     fit             the counts of a line that is not refused Fit
+--     readable        and its head says what it has
 --
 -- Assumes nothing.
-use mathlib.Core.Path.{◌≡◌, refl, sym, ◌∙◌, ap₂}
-use mathlib.Core.Bool.{Bool, true, false}
-use mathlib.Core.List.{List}
-use Prim.Native.Nat.{ℕ, ◌+◌, ◌*◌, ◌%◌, ◌≤◌}
+use mathlib.Core.Path.{◌≡◌, refl, sym, ◌∙◌, ap}
+use mathlib.Core.Bool.{Bool, true, false, ◌&&◌}
+use mathlib.Core.List.{List, [], ◌∷◌}
+use Prim.Native.Nat.{ℕ, zero, suc, ◌+◌, ◌*◌, ◌%◌, ◌≤◌}
 use native.Mathlib.Nat.{mul-le-mul, add-mul}
 use native.Mathlib.Omega.{arith}
-use lib.ListN.{length}
+use lib.ListN.{length, get_or}
+use Rattle.std.specs.List.{fold}
+use Rattle.integers.specs.Below.{all_below}
 use Rattle.integers.proofs.Laws.Decide.{Decides, by_le, by_eq, by_and}
-use Rattle.checker.specs.Refutation.{unless}
-use Rattle.frames.specs.Hex.{value_at}
-use Rattle.frames.specs.Problem.{are_digits, is_frame, is_problem, line_refusal, n_of, ma_of, mb_of, side_long}
+use Rattle.std.specs.Prelude.{None}
+use Rattle.problem.specs.declared.Refusal.TheVariants.{WrongShape, NoFrame}
+use Rattle.problem.specs.Refusal.{unless}
+use Rattle.frames.specs.Hex.{is_digit, value_at}
+use Rattle.frames.specs.Problem.{are_digits, is_frame, is_problem, line_refusal, n_of, ma_of, mb_of, side_long, head_of}
+use Rattle.frames.specs.Code.{Readable}
 
 pub small : (m n : ℕ) → m ≤ 12 → n ≤ 12 → side_long n m ≤ 168
 small m n h k = let l : n + 2 ≤ 14 = omega arith in mul-le-mul h l
+
+and_assoc : (a b c : Bool) → (a && b) && c ≡ a && (b && c)
+and_assoc true b c = refl
+and_assoc false b c = refl
+
+-- one place more in front
+all_front : (n : ℕ) (t : ℕ → Bool) → all_below (suc n) t ≡ t 0 && all_below n (λ i. t (suc i))
+unfolding all_below
+all_front zero t = elim (t 0) as (λ v. true && v ≡ v && true) [ true ↦ refl | false ↦ refl ]
+all_front (suc n) t = ap (λ (a : Bool). a && t (suc n)) (all_front n t) ∙ and_assoc (t 0) (all_below n (λ i. t (suc i))) (t (suc n))
+
+and_true : (a : Bool) → a ≡ a && true
+and_true true = refl
+and_true false = refl
+
+abbrev goes_on : Bool → ℕ → Bool
+goes_on good c = good && is_digit c
+
+folded : (good : Bool) (l : List ℕ) → fold goes_on good l ≡ good && are_digits l
+unfolding all_below
+folded good [] = and_true good
+folded good (c ∷ l) =
+    folded (good && is_digit c) l ∙ and_assoc good (is_digit c) (are_digits l) ∙ ap (λ (t : Bool). good && t) (sym (all_front (length l) (λ i. is_digit (get_or (c ∷ l) i 0))))
+
+pub fold_digits : (l : List ℕ) → fold (λ good c. good && is_digit c) true l ≡ are_digits l
+fold_digits l = folded true l
 
 pub record Lawful (l : List ℕ) : Type 0 where
   pub digits : are_digits l ≡ true
@@ -58,38 +89,27 @@ problem_lawful l f e =
     let all = (problem_tests l).yes e in
     record { digits = frame_digits l f; few_n = all.1.0; few_m = all.1.1.1.0; long = all.1.1.1.1 }
 
-pub taken : (l : List ℕ) → is_frame l ≡ true → is_problem l ≡ true → line_refusal l ≡ 0
+pub taken : (l : List ℕ) → is_frame l ≡ true → is_problem l ≡ true → line_refusal l ≡ None
 unfolding line_refusal
 taken l e f = simp (e, f)
 
-none : (s t : Bool) → unless s 9 (unless t 1 0) ≡ 0 → (s ≡ true) × (t ≡ true)
+none : (s t : Bool) → unless s NoFrame (unless t WrongShape None) ≡ None → (s ≡ true) × (t ≡ true)
 none true true e = (refl, refl)
-none true false e = absurd (omega arith)
-none false t e = absurd (omega arith)
+none true false e = cc
+none false t e = cc
 
-pub lawful : (l : List ℕ) → line_refusal l ≡ 0 → Lawful l
+pub lawful : (l : List ℕ) → line_refusal l ≡ None → Lawful l
 unfolding line_refusal
 lawful l e = let both = none (is_frame l) (is_problem l) e in problem_lawful l both.0 both.1
 
-pub record Fit (n ma mb long : ℕ) : Type 0 where
-  pub few_n : n ≤ 12
-  pub few_m : ma + mb ≤ 12
-  pub small_a : side_long n ma ≤ 168
-  pub small_b : side_long n mb ≤ 168
-  pub numbers : long ≡ 16 + side_long n ma * 8 + side_long n mb * 8
-
-lawful_fit : (n ma mb long : ℕ) → n ≤ 12 → ma + mb ≤ 12 → long ≡ 16 + side_long n (ma + mb) * 8 → Fit n ma mb long
-lawful_fit n ma mb long h k e = record {
-  few_n = h;
-  few_m = k;
-  small_a = small ma n (omega arith) h;
-  small_b = small mb n (omega arith) h;
-  numbers = let both = add-mul ma mb (n + 2) in omega arith;
-}
-
-module _ (l : List ℕ) {n ma mb : ℕ} (is_n : n ≡ n_of l) (is_ma : ma ≡ ma_of l) (is_mb : mb ≡ mb_of l) where
-  pub fit : line_refusal l ≡ 0 → Fit n ma mb (length l)
-  fit e =
-      let law = lawful l e in
-      lawful_fit n ma mb (length l) (omega (arith, law.few_n)) (omega (arith, law.few_m))
-      (law.long ∙ ap₂ (λ (n m : ℕ). 16 + side_long n m * 8) (sym is_n) (ap₂ (λ (a b : ℕ). a + b) (sym is_ma) (sym is_mb)))
+pub readable : (l : List ℕ) → line_refusal l ≡ None → Readable l (head_of l)
+readable l e =
+    let law = lawful l e in
+    record {
+      few_n = law.few_n;
+      few_m = law.few_m;
+      small_a = small (ma_of l) (n_of l) (omega (arith, law.few_m)) law.few_n;
+      small_b = small (mb_of l) (n_of l) (omega (arith, law.few_m)) law.few_n;
+      digits = law.digits;
+      long = let both = add-mul (ma_of l) (mb_of l) (n_of l + 2) in omega (arith, law.long);
+    }

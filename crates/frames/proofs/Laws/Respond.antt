@@ -7,16 +7,16 @@
 --     respond_answered with room it is Answered
 --
 -- Assumes nothing.
-use mathlib.Core.Path.{◌≡◌, refl, ◌∙◌, ap}
+use mathlib.Core.Path.{◌≡◌, refl, ap}
 use mathlib.Core.Bool.{Bool, true, false, cond}
 use mathlib.Core.List.{List, ◌++◌}
 use Prim.Native.Nat.{ℕ, ◌+◌, ◌<◌, ◌≤◌}
 use native.Mathlib.Omega.{arith}
 use borrow.Author.Tests.{le-leb, lt-leb}
-use lib.ListN.{length, take, drop, length-append}
-use lib.Seq.{sets, sets-eq, length-sets, length-take-le, take_at}
+use lib.ListN.{length, take}
+use lib.Seq.{sets, length-sets}
 use Rattle.frames.specs.Answer.{answer_of, answer_max, has_room, respond_end, respond_run}
-use Rattle.frames.specs.Code.{Written}
+use Rattle.frames.proofs.Laws.Text.{take_sets}
 use Rattle.frames.proofs.Theorems.Length.{answer_some, answer_short}
 
 pub record Answered (line out : List ℕ) (at : ℕ) (after : List ℕ) (end : ℕ) : Type 0 where
@@ -29,12 +29,12 @@ module _ (line out : List ℕ) (at : ℕ) where
   unfolding respond_end respond_run
   respond_none h = let e = lt-leb (at + answer_max) (length out) h in (simp e, simp e)
 
-  pub respond_some : {text after : List ℕ} {end : ℕ} → at + answer_max ≤ length out → text ≡ answer_of line → Written out at text after end →
-      (end ≡ respond_end line out at) × (after ≡ respond_run line out at)
+  pub respond_some : {text : List ℕ} → at + answer_max ≤ length out → text ≡ answer_of line →
+      (at + length text ≡ respond_end line out at) × (sets out at text ≡ respond_run line out at)
   unfolding respond_end respond_run
-  respond_some h e w =
+  respond_some h e =
       let room = le-leb (at + answer_max) (length out) h in
-      (simp room (w.place ∙ ap (λ (t : List ℕ). at + length t) e), simp room (w.run ∙ ap (sets out at) e))
+      (simp room (ap (λ (t : List ℕ). at + length t) e), simp room (ap (sets out at) e))
 
   kept_by : (t : Bool) → length (cond t (sets out at (answer_of line)) out) ≡ length out
   kept_by true = length-sets out at (answer_of line)
@@ -44,15 +44,6 @@ module _ (line out : List ℕ) (at : ℕ) where
   unfolding respond_run
   respond_kept = kept_by (has_room out at)
 
-  written_text : at + answer_max ≤ length out → take (at + length (answer_of line)) (sets out at (answer_of line)) ≡ take at out ++ answer_of line
-  written_text h =
-      let answer = answer_of line in
-      let short = answer_short line in
-      let long = length-take-le at out (omega arith) in
-      let head = length-append (take at out) answer in
-      let e : length (take at out ++ answer) ≡ at + length answer = omega arith in
-      ap (take (at + length answer)) (sets-eq answer out at (omega arith)) ∙ take_at (take at out ++ answer) (drop (at + length answer) out) (at + length answer) e
-
   pub respond_answered : at + answer_max ≤ length out → Answered line out at (respond_run line out at) (respond_end line out at)
   unfolding respond_end respond_run
   respond_answered h =
@@ -60,4 +51,4 @@ module _ (line out : List ℕ) (at : ℕ) where
       let some = answer_some line in
       let short = answer_short line in
       let kept = length-sets out at (answer_of line) in
-      simp room (record { more = omega arith; within = omega arith; text = written_text h })
+      simp room (record { more = omega arith; within = omega arith; text = take_sets (answer_of line) out at (omega arith) })

@@ -7,7 +7,7 @@
 use mathlib.Core.Path.{◌≡◌, refl, sym, ◌∙◌, ap}
 use mathlib.Core.Bool.{true≢false}
 use mathlib.Core.List.{List}
-use Prim.Native.Nat.{ℕ, zero, suc, ◌+◌, ◌<◌}
+use Prim.Native.Nat.{ℕ, suc, ◌+◌, ◌<◌}
 use native.Mathlib.Decide.{dec_lt}
 use native.Mathlib.Omega.{arith}
 use lib.ListN.{length, get_or, length-append, get_or-append}
@@ -16,13 +16,14 @@ use mir.Syntax.{w64}
 use mir.Val.{of_z}
 use Rattle.integers.proofs.Laws.Below.{all_each}
 use Rattle.checker.specs.Answer.{judge_answer, judge_run}
-use Rattle.checker.specs.declared.Answer.{Answer}
-use Rattle.checker.specs.declared.Answer.TheVariants.{Fact, Refused as Unstated}
+use Rattle.std.specs.Prelude.{Option, Some, None, Result, Ok, Err}
+use Rattle.problem.specs.declared.Refusal.{Refusal}
+use Rattle.problem.specs.Refusal.{number_of}
+use Rattle.checker.specs.declared.Fact.{Fact}
 use Rattle.search.specs.Answer.{search_reply, search_vector, search_point}
 use Rattle.search.specs.declared.Outcome.{Outcome}
 use Rattle.search.specs.declared.Outcome.TheVariants.{Unfinished, TooLarge, Refuted, Solved}
-use Rattle.search.specs.declared.Reply.{Reply}
-use Rattle.search.specs.declared.Reply.TheVariants.{Refused, Answered}
+use Rattle.search.specs.declared.Answer.{Answer}
 use Rattle.frames.specs.Hex.{is_digit}
 use Rattle.frames.specs.Problem.{line_refusal, n_of, ma_of, mb_of, budget_of, side_a, side_b}
 use Rattle.frames.specs.Answer.{line_end, refutation_frame, point_frame, unfinished_frame, interpolant_frame, refusal_frame, fact_answer, outcome_answer, reply_answer, problem_answer, zeros, problem_lines, answer_by, answer_of}
@@ -61,9 +62,9 @@ refusal_line : (number steps : ℕ) → IsLine 6 (refusal_frame number steps)
 unfolding refusal_frame
 refusal_line number steps = line_of 6 (omega arith) (rest_hex 2 number refl (rest_hex 8 steps refl rest_end))
 
-fact-answer : (x : Answer) (n m steps : ℕ) (q : ℤ) (vector coeffs : List ℤ) → IsAnswer (fact_answer x n m steps q vector coeffs)
-fact-answer (Fact constant modulus) n m steps q vector coeffs = refuted (refutation_line steps m q vector) (interpolant_line n coeffs constant modulus)
-fact-answer (Unstated number) n m steps q vector coeffs = refused (refusal_line number 0)
+fact-answer : (x : Result Fact Refusal) (n m steps : ℕ) (q : ℤ) (vector coeffs : List ℤ) → IsAnswer (fact_answer x n m steps q vector coeffs)
+fact-answer (Ok fact) n m steps q vector coeffs = refuted (refutation_line steps m q vector) (interpolant_line n coeffs fact.constant fact.modulus)
+fact-answer (Err refusal) n m steps q vector coeffs = refused (refusal_line (number_of refusal) 0)
 
 module _ (n ma mb : ℕ) (a b vector point coeffs : List ℤ) where
   outcome-answer : (o : Outcome) (steps : ℕ) → IsAnswer (outcome_answer o steps n ma mb a b vector point coeffs)
@@ -73,18 +74,18 @@ module _ (n ma mb : ℕ) (a b vector point coeffs : List ℤ) where
       fact-answer (judge_answer n ma mb a b q vector coeffs) n (ma + mb) steps q vector (judge_run n ma mb a b q vector coeffs)
   outcome-answer Solved steps = solved (point_line steps n point)
 
-  reply-answer : (r : Reply) → IsAnswer (reply_answer r n ma mb a b vector point coeffs)
-  reply-answer (Refused number) = refused (refusal_line number 0)
-  reply-answer (Answered found) = outcome-answer found.outcome found.steps
+  reply-answer : (r : Result Answer Refusal) → IsAnswer (reply_answer r n ma mb a b vector point coeffs)
+  reply-answer (Err refusal) = refused (refusal_line (number_of refusal) 0)
+  reply-answer (Ok found) = outcome-answer found.outcome found.steps
 
 problem-answer : (n ma mb : ℕ) (a b : List ℤ) (budget : ℕ) (vector point coeffs : List ℤ) → IsAnswer (problem_answer n ma mb a b budget vector point coeffs)
 unfolding problem_answer
 problem-answer n ma mb a b budget vector point coeffs =
     reply-answer n ma mb a b (search_vector n ma mb a b budget vector point) (search_point n ma mb a b budget vector point) coeffs (search_reply n ma mb a b budget vector point)
 
-answered_by : (k : ℕ) (lines : List ℕ) → IsAnswer lines → IsAnswer (answer_by k lines)
-answered_by zero lines h = h
-answered_by (suc k) lines h = refused (refusal_line (suc k) 0)
+answered_by : (k : Option Refusal) (lines : List ℕ) → IsAnswer lines → IsAnswer (answer_by k lines)
+answered_by None lines h = h
+answered_by (Some k) lines h = refused (refusal_line (number_of k) 0)
 
 pub answer_well_formed : (l : List ℕ) → IsAnswer (answer_of l)
 unfolding answer_of problem_lines

@@ -1,20 +1,12 @@
-use mathlib.Core.List.{List}
-use mathlib.Core.Path.{sym, ◌∙◌, ap₂}
-use mathlib.Core.Bool.{Bool, ◌&&◌}
-use Prim.Native.Nat.{ℕ}
-use native.Mathlib.Omega.{arith}
-use lib.ListN.{get_or}
-use Rattle.integers.proofs.Laws.Below.{all_none, all_more}
+use mathlib.Core.Bool.{Bool, true, ◌&&◌}
+use Rattle.std.proofs.Common.{ℕ, ◌∙◌, rules}
+use Rattle.std.proofs.lemmas.Iterator.{YieldsList-from_slice}
+use Rattle.std.proofs.lemmas.Iterator.Consumers.{fold_from_yields_List}
 use Rattle.frames.specs.Hex.{is_digit}
+use Rattle.frames.proofs.Laws.Problem.{fold_digits}
 use Rattle.frames.proofs.are_digits.Goals as goal
-use Rattle.frames.proofs.are_digits.Goals.{Start}
 
-abbrev test : List ℕ → ℕ → Bool
-test line k = is_digit (get_or line k 0)
-
-pub loop-i-init : goal.loop-i-init
-loop-i-init c = (omega arith, sym (all_none (test c.args.line.now)))
-
-pub loop-i-preserved : goal.loop-i-preserved
-loop-i-preserved c =
-    (omega arith, c.both-good.ensures ∙ ap₂ (λ (a b : Bool). a && b) c.loop-i.invariant.1 c.is_digit.ensures ∙ sym (all_more c.loop-i.i (test c.args.line.now)))
+pub returns : goal.returns
+returns c =
+    let goes_on : Bool → ℕ → Bool = λ good x. good && is_digit x in
+    fold_from_yields_List _ goes_on true _ c.fold.ensures.ran (YieldsList-from_slice c.args.line.now cc) (λ a x b q k. search rules) ∙ fold_digits c.args.line.now

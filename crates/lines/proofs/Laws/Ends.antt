@@ -1,48 +1,25 @@
 -- The next line end.
 --
---     end_here       a line end at the place itself            end_past      none at the place: the one from the next place on
---     end_none       past the last byte there is none
---     end_after, end_within                                    it is not before the place, and not past the length
+--     end_after, end_within    it is not before the place, and not past the length
+--     end_position   it is where std's `position` finds it
 --     before_found   where there is one, it stands after the bytes before it
 --
 -- Assumes nothing.
-use mathlib.Core.Path.{◌≡◌, refl, sym, ◌∙◌, ap}
-use mathlib.Core.Bool.{Bool, true, false, cond}
+use mathlib.Core.Path.{◌≡◌, refl, ◌∙◌, ap}
+use mathlib.Core.Bool.{Bool, true, false, cond, not}
 use mathlib.Core.List.{List, [], ◌∷◌}
-use Prim.Native.Nat.{ℕ, zero, suc, ◌+◌, ◌<◌, ◌≤◌}
-use native.Mathlib.Nat.{add-zero}
+use Prim.Native.Nat.{ℕ, zero, suc, ◌+◌, ◌-◌, ◌<◌, ◌≤◌}
 use native.Mathlib.Omega.{arith}
-use borrow.Author.Tests.{eq-eqb, ne_eqb, eqb-true}
-use lib.ListN.{length, get_or, drop, length-drop}
-use lib.Seq.{drop-cons, drop-length}
+use borrow.Author.Tests.{eqb-true, ltb-false}
+use lib.ListN.{length, take, drop, length-drop}
+use lib.Dec.{ltb}
+use Rattle.std.specs.List.{position, position_or_len}
+use Rattle.std.specs.Prelude.{Option, Some, None}
+use Rattle.std.specs.Option.{unwrap_or}
+use Rattle.std.proofs.lemmas.List.{take_rest}
 use Rattle.lines.specs.Lines.{is_end, before, end_from}
 
-before_end : (b : ℕ) (s : List ℕ) → b ≡ 10 → before (b ∷ s) ≡ 0
-unfolding before
-before_end b s e = ap (λ (t : Bool). cond t zero (suc (before s))) (eq-eqb b 10 e)
-
-before-other : (b : ℕ) (s : List ℕ) → (b ≡ 10 → ⊥) → before (b ∷ s) ≡ suc (before s)
-unfolding before
-before-other b s h = ap (λ (t : Bool). cond t zero (suc (before s))) (ne_eqb b 10 h)
-
 module _ (s : List ℕ) (i : ℕ) where
-  pub end_here : i < length s → get_or s i 0 ≡ 10 → i ≡ end_from s i
-  unfolding end_from
-  end_here h e = sym (ap (λ (k : ℕ). i + k) (ap before (drop-cons s i 0 h) ∙ before_end (get_or s i 0) (drop (suc i) s) e) ∙ add-zero i)
-
-  pub end_past : i < length s → (get_or s i 0 ≡ 10 → ⊥) → end_from s (i + 1) ≡ end_from s i
-  unfolding end_from
-  end_past h g =
-      let e = ap before (drop-cons s i 0 h) ∙ before-other (get_or s i 0) (drop (suc i) s) g in
-      let next : i + 1 ≡ suc i = omega arith in
-      ap (λ (k : ℕ). k + before (drop k s)) next ∙ omega arith
-
-  pub end_none : length s ≤ i → i ≤ length s → i ≡ end_from s i
-  unfolding end_from before
-  end_none h g =
-      let e : i ≡ length s = omega arith in
-      sym (ap (λ (l : List ℕ). i + before l) (ap (λ (k : ℕ). drop k s) e ∙ drop-length s) ∙ add-zero i)
-
   pub end_after : i ≤ end_from s i
   unfolding end_from
   end_after = omega arith
@@ -69,3 +46,30 @@ pub before_found : (s : List ℕ) → before s < length s → drop (before s) s 
 unfolding before
 before_found [] h = absurd (omega arith)
 before_found (b ∷ s) h = found_by (is_end b) b s refl (before_found s) h
+
+position_by : (t : Bool) (k : ℕ) → cond (not t) (1 + k) 0 ≡ cond t zero (suc k)
+position_by true k = refl
+position_by false k = omega arith
+
+before_position : (s : List ℕ) → position_or_len is_end s ≡ before s
+unfolding before
+before_position [] = refl
+before_position (b ∷ s) = position_by (is_end b) (position_or_len is_end s) ∙ ap (λ (k : ℕ). cond (is_end b) zero (suc k)) (before_position s)
+
+place_by : (t : Bool) (k n : ℕ) → ltb k n ≡ t → k ≤ n → unwrap_or (cond t (Some k) None) n ≡ k
+place_by true k n e h = refl
+place_by false k n e h = let g = ltb-false k n e in omega arith
+
+place_is : (s : List ℕ) → unwrap_or (position is_end s) (length s) ≡ before s
+place_is s =
+    let k = position_or_len is_end s in
+    let e = before_position s in
+    place_by (ltb k (length s)) k (length s) refl (omega (arith, before-within s)) ∙ e
+
+-- the part from place i on, as the code has it
+pub end_position : (s : List ℕ) (i : ℕ) (r : Option ℕ) → r ≡ position is_end (take (length s - i) (drop i s)) →
+    i + unwrap_or r (length (take (length s - i) (drop i s))) ≡ end_from s i
+unfolding end_from
+end_position s i r e =
+    ap (λ (r : Option ℕ). i + unwrap_or r (length (take (length s - i) (drop i s)))) e
+    ∙ ap (λ (t : List ℕ). i + unwrap_or (position is_end t) (length t)) (take_rest s i) ∙ ap (λ (k : ℕ). i + k) (place_is (drop i s))

@@ -27,7 +27,8 @@ use Rattle.lines.specs.Promises.{finish_text}
 use Rattle.lines.specs.declared.Progress.{Progress}
 use Rattle.lines.proofs.Laws.Ends.{end_after, end_within, before_found}
 use Rattle.lines.proofs.Laws.Kept.{part_slice, kept_text, kept-held, kept_length, answered_length}
-use Rattle.lines.proofs.Laws.Fits.{Lawful, lawful_is, Fitting, fitting}
+use Rattle.lines.specs.Code.{Lawful}
+use Rattle.lines.proofs.Laws.Fits.{lawful_is, Fitting, fitting}
 use Rattle.lines.proofs.Laws.Machine.{out_stretch, rest_stretch, answer_of_cap, out_line, rest_line, last_some}
 
 -- The contract ---------------------------------------------------------------------------------------------------------

@@ -1,6 +1,6 @@
 -- What a call of `feed` asks, and what its tests say.
 --
---     Lawful     a carry that is `cap` long, with no more of it in use          lawful    is_carry says so
+--     lawful     a carry of which is_carry says so is Lawful
 --     Fitting    what makes a call fit: all places are in their runs, and the longest answer has room
 --     fitting    fits says so
 --     lawful_is, fitting_is    what is so is told to be so
@@ -18,10 +18,7 @@ use lib.Dec.{eqb, leb}
 use lib.ListN.{length}
 use Rattle.frames.specs.Answer.{answer_max, has_room}
 use Rattle.lines.specs.Lines.{cap, is_carry, fits}
-
-pub record Lawful (carry : List ℕ) (held : ℕ) : Type 0 where
-  pub long : length carry ≡ cap
-  pub few : held ≤ cap
+use Rattle.lines.specs.Code.{Lawful}
 
 pub record Fitting (chunk : List ℕ) (at : ℕ) (carry : List ℕ) (held : ℕ) (out : List ℕ) (made : ℕ) : Type 0 where
   pub kept : Lawful carry held
@@ -54,8 +51,8 @@ unfolding fits
 fitting_is chunk at carry held out made h =
     simp (lawful_is carry held h.kept, le-leb at (length chunk) h.inside, le-leb (made + answer_max) (length out) h.room)
 
-pub room_left : (n made : ℕ) → made ≤ n → leb answer_max (n - made) ≡ leb (made + answer_max) n
-room_left n made h = elim (dec_lt n (made + answer_max)) [
+pub room_left : (n made : ℕ) → leb answer_max (n - made) ≡ leb (made + answer_max) n
+room_left n made = elim (dec_lt n (made + answer_max)) [
   | yes g ↦ lt-leb answer_max (n - made) (omega arith) ∙ sym (lt-leb (made + answer_max) n g)
   | no g ↦ le-leb answer_max (n - made) (omega arith) ∙ sym (le-leb (made + answer_max) n (omega arith))
 ]

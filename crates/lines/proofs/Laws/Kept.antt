@@ -18,6 +18,8 @@ use borrow.Author.Tests.{eq-eqb, ne_eqb}
 use lib.Dec.{eqb}
 use lib.ListN.{length, take, drop}
 use lib.Seq.{paste, take-paste, length-paste, take-take, take_all, take-append-add, length-take-le, take-nil}
+use borrow.Rule.Slice.PartMut.{put_mid}
+use Rattle.std.proofs.lemmas.Slice.{put_mid-paste}
 use Rattle.lines.specs.Lines.{cap, part, kept_count, kept_run, kept_held, answered_run}
 
 pub part_slice : (l : List ℕ) (i j : ℕ) → part l i j ≡ drop i (take j l)
@@ -32,13 +34,14 @@ take-least l k = elim (dec_lt (length l) k) [
   | no h ↦ let e : min (length l) k ≡ k = omega arith in ap (λ (m : ℕ). take m l) e
 ]
 
-pub kept_copied : (carry s : List ℕ) (held n count : ℕ) → n ≤ length s → count ≡ min n (cap - held) →
-    (held + count ≡ kept_held held (take n s)) × (paste carry held s count ≡ kept_run carry held (take n s))
+pub kept_copied : (carry bytes part : List ℕ) (held count k : ℕ) → count ≡ min (length bytes) (cap - held) → part ≡ take count bytes → k ≡ count →
+    (held + count ≡ kept_held held bytes) × (put_mid held k carry part ≡ kept_run carry held bytes)
 unfolding kept_held kept_run
-kept_copied carry s held n count h e =
-    let q : count ≡ kept_count held (take n s) = e ∙ ap (λ (m : ℕ). min m (cap - held)) (sym (length-take-le n s h)) in (
-      ap (λ (m : ℕ). held + m) q,
-      ap (λ (t : List ℕ). take held carry ++ t ++ drop (held + count) carry) (sym (take-take count n s (omega arith))) ∙ ap (paste carry held (take n s)) q,
+kept_copied carry bytes part held count k e f g =
+    let long = length-take-le count bytes (omega arith) in (
+      ap (λ (m : ℕ). held + m) e,
+      put_mid-paste held k carry part (take count bytes) count f (sym g) (sym long)
+          ∙ ap (λ (t : List ℕ). take held carry ++ t ++ drop (held + count) carry) (take-take count count bytes (omega arith)) ∙ ap (paste carry held bytes) e,
     )
 
 pub kept-held : (held : ℕ) (bytes : List ℕ) → held ≤ cap → kept_held held bytes ≤ cap

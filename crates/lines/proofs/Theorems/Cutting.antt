@@ -19,7 +19,8 @@ use lib.Seq.{drop-length}
 use Rattle.frames.specs.Answer.{answer_max}
 use Rattle.lines.specs.Lines.{last_line, lines_from, answers, cap, out_of, rest_of, last_of, fed_progress, fed_carry}
 use Rattle.lines.specs.Promises.{joined, fed_text, finish_text, Calls, over, call, Stream, ended, more}
-use Rattle.lines.proofs.Laws.Fits.{Lawful, fitting_is}
+use Rattle.lines.specs.Code.{Lawful}
+use Rattle.lines.proofs.Laws.Fits.{fitting_is}
 use Rattle.lines.proofs.Laws.Machine.{rest_append, out_append, meant}
 use Rattle.lines.proofs.Laws.Feed.{fed, finish-text}
 

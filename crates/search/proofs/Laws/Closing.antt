@@ -30,7 +30,7 @@ use Rattle.integers.proofs.Laws.Decide.{by_zero}
 use Rattle.integers.proofs.Laws.Run.{tabulate-at}
 use Rattle.search.specs.Table.{bound, cell, Bounded, swap_columns, negate_column}
 use Rattle.search.specs.State.{State, Outcome, Unfinished, const_of, z_of}
-use Rattle.search.specs.Vector.{vector_of}
+use Rattle.search.specs.Vector.{in_range, vector_of}
 use Rattle.search.specs.Step.{first_column, second_column, too_large, negate_by, swap_by, close_table, residual_of, place_of, point_of, solve_by, last_by, closed, passed, placed, place_by, go_on_by, refute_by, close_by, close_of}
 use Rattle.search.specs.Code.{Sound}
 use Rattle.search.proofs.Laws.Table.{swap_length, swap_first, swap_other, negate_other}
@@ -210,11 +210,11 @@ module _ (C : Table) (s : State) (h : Sound s) (k : Kept C s) (goes : s.outcome 
       place true = closed_right C s (placed s t z) (unfold placed in h.few_n) (unfold placed in goes) (placed_kept some z (∣_exact (residual_of s t) e d))
 
   -- it does not
-  refute_right : (e ∣ℤ residual_of s t → ⊥) → Right C (refute_by (vector_of s t e).ok s t (vector_of s t e)).outcome (refute_by (vector_of s t e).ok s t (vector_of s t e))
+  refute_right : (e ∣ℤ residual_of s t → ⊥) → Right C (refute_by (in_range (vector_of s t e)) s t (vector_of s t e)).outcome (refute_by (in_range (vector_of s t e)) s t (vector_of s t e))
   unfolding refute_by too_large
-  refute_right fails = go (vector_of s t e).ok refl
+  refute_right fails = go (in_range (vector_of s t e)) refl
     where
-      go : (b : Bool) → (vector_of s t e).ok ≡ b → Right C (refute_by b s t (vector_of s t e)).outcome (refute_by b s t (vector_of s t e))
+      go : (b : Bool) → in_range (vector_of s t e) ≡ b → Right C (refute_by b s t (vector_of s t e)).outcome (refute_by b s t (vector_of s t e))
       go false ok = tt
       go true ok = vector_refutes C s t table.faithful h.row_in table.zeros (entry_positive s h) fails ok
 

@@ -22,6 +22,7 @@ use Rattle.search.specs.Step.{first_column, second_column, too_large, quotient, 
 use Rattle.search.specs.Run.{is_unfinished}
 use Rattle.search.specs.Answer.{is_refuted, is_solved}
 use Rattle.search.specs.Promises.{reduced_cell, closed_table, closed_entry, closed_residual, closed_z, closed_next, closed_vector, Closes, GoesOn, Exceeds, large_cell, large_z, large_place, large_numerator, large_denominator}
+use Rattle.search.specs.Vector.{in_range}
 use Rattle.search.proofs.Laws.Vector.{OutOfRange, numerator_out, denominator_out, vector_out, out_vector}
 
 above : (B : ℕ) (z : ℤ) → within B z ≡ false → B < nat_abs z
@@ -105,7 +106,7 @@ module _ (s : State) where
           go true p h = place_exceeds d (placed s (closed_table s) (closed_z s)) (next_is false z) refl refl (closed_exceeds s (placed s (closed_table s) (closed_z s)) goes h)
           go false p h = large_z alone d (decides_no (by_zero (closed_entry s)) z) (above bound (closed_z s) p)
 
-      refute_exceeds : (GoesOn s → ⊥) → (b : Bool) → (closed_vector s).ok ≡ b → (refute_by b s (closed_table s) (closed_vector s)).outcome ≡ TooLarge → Exceeds s
+      refute_exceeds : (GoesOn s → ⊥) → (b : Bool) → in_range (closed_vector s) ≡ b → (refute_by b s (closed_table s) (closed_vector s)).outcome ≡ TooLarge → Exceeds s
       unfolding refute_by
       refute_exceeds d true p h = absurd (true≢false (ap is_refuted h))
       refute_exceeds d false p h = out (vector_out s (closed_table s) (closed_entry s) p)
@@ -120,7 +121,7 @@ module _ (s : State) where
         where
           way : (b : Bool) → divides (closed_entry s) (closed_residual s) ≡ b → (close_by b s (closed_table s) (closed_entry s)).outcome ≡ TooLarge → Exceeds s
           way true d = go_on_exceeds ((by_divides (closed_entry s) (closed_residual s)).yes d) (is_zero (closed_entry s)) refl
-          way false d = refute_exceeds (decides_no (by_divides (closed_entry s) (closed_residual s)) d) (closed_vector s).ok refl
+          way false d = refute_exceeds (decides_no (by_divides (closed_entry s) (closed_residual s)) d) (in_range (closed_vector s)) refl
 
     pub step_exceeds : (step_of s).outcome ≡ TooLarge → Exceeds s
     unfolding step_of step_by

@@ -31,7 +31,7 @@ use Rattle.integers.proofs.Laws.Run.{tabulate-at}
 use Rattle.problem.specs.WellFormed.{million}
 use Rattle.search.specs.Table.{cell}
 use Rattle.search.specs.State.{Given, State, const_of, pivot_of, z_of}
-use Rattle.search.specs.Vector.{Vector, checked, unit_vector, column_sum, factor_of, back_one, back_by, back_from, denominator_by, vector_of}
+use Rattle.search.specs.Vector.{Vector, in_range, unit_vector, column_sum, factor_of, back_one, back_by, back_from, denominator_by, vector_of}
 use Rattle.search.specs.Step.{residual_of}
 use Rattle.search.proofs.Laws.Columns.{Table}
 use Rattle.search.proofs.Laws.Faithful.{FaithfulAt}
@@ -63,7 +63,7 @@ module _ (C : Table) (s : State) (t : List ℤ) (f : FaithfulAt C s t) (now : s.
     q_is : v.q ≡ μ *ℤ cond (is_zero e) (pos 1) e
 
   way_start : Way s.count (unit_vector s.row e)
-  unfolding unit_vector checked
+  unfolding unit_vector
   way_start =
       let few = f.few in
       let unit : ℕ → ℤ = λ k. cond (eqb k s.row) (pos 1) (pos 0) in
@@ -77,7 +77,7 @@ module _ (C : Table) (s : State) (t : List ℤ) (f : FaithfulAt C s t) (now : s.
       }
 
   way_step : (k : ℕ) → k < s.count → (v : Vector) → Way (suc k) v → Way k (back_one m t (pivot_of s k) k v)
-  unfolding back_one checked column_sum
+  unfolding back_one column_sum
   way_step k l v w =
       let few = f.few in
       let under = f.under k l in
@@ -98,16 +98,16 @@ module _ (C : Table) (s : State) (t : List ℤ) (f : FaithfulAt C s t) (now : s.
         q_is = ap (λ z. y *ℤ z) w.q_is ∙ sym (*ℤ_assoc y w.μ (cond (is_zero e) (pos 1) e));
       }
 
-  way_all : (k : ℕ) → k ≤ s.count → (v : Vector) → Way k v → (back_from k m t (pivot_of s) v).ok ≡ true → Way 0 (back_from k m t (pivot_of s) v)
+  way_all : (k : ℕ) → k ≤ s.count → (v : Vector) → Way k v → in_range (back_from k m t (pivot_of s) v) ≡ true → Way 0 (back_from k m t (pivot_of s) v)
   unfolding back_from back_by
   way_all zero l v w h = w
-  way_all (suc k) l v w h = go v.ok refl h (way_all k (omega arith) (back_one m t (pivot_of s k) k v) (way_step k (omega arith) v w))
+  way_all (suc k) l v w h = go (in_range v) refl h (way_all k (omega arith) (back_one m t (pivot_of s k) k v) (way_step k (omega arith) v w))
     where
-      go : (b : Bool) → v.ok ≡ b → (back_from k m t (pivot_of s) (back_by b m t (pivot_of s k) k v)).ok ≡ true
-          → ((back_from k m t (pivot_of s) (back_one m t (pivot_of s k) k v)).ok ≡ true → Way 0 (back_from k m t (pivot_of s) (back_one m t (pivot_of s k) k v)))
+      go : (b : Bool) → in_range v ≡ b → in_range (back_from k m t (pivot_of s) (back_by b m t (pivot_of s k) k v)) ≡ true
+          → (in_range (back_from k m t (pivot_of s) (back_one m t (pivot_of s k) k v)) ≡ true → Way 0 (back_from k m t (pivot_of s) (back_one m t (pivot_of s k) k v)))
           → Way 0 (back_from k m t (pivot_of s) (back_by b m t (pivot_of s k) k v))
       go true q r onward = onward r
-      go false q r onward = absurd (false≢true (sym q ∙ ap (λ (x : Vector). x.ok) (sym (back_stops m t (pivot_of s) k v q)) ∙ r))
+      go false q r onward = absurd (false≢true (sym q ∙ ap in_range (sym (back_stops m t (pivot_of s) k v q)) ∙ r))
 
   module _ (positive : is_zero e ≡ false → Positive e) (fails : e ∣ℤ residual_of s t → ⊥) where
     -- what is left to show of a vector beside its range
@@ -126,7 +126,7 @@ module _ (C : Table) (s : State) (t : List ℤ) (f : FaithfulAt C s t) (now : s.
         }
 
     without_pivot : (v : Vector) → Way 0 v → is_zero e ≡ true → Refuting (denominator_by true s v)
-    unfolding denominator_by checked
+    unfolding denominator_by
     without_pivot v w none =
         let b = back_none f now e (at v.p) w.μ (residual_of s t) w.back (constant_is s t) ((by_zero e).yes none) fails in
         let sum = dot m (at v.p) (const_of s.given) in
@@ -141,15 +141,15 @@ module _ (C : Table) (s : State) (t : List ℤ) (f : FaithfulAt C s t) (now : s.
     abbrev last : Vector
     last = back_from s.count m t (pivot_of s) (unit_vector s.row e)
 
-    refuting : (a b : Bool) → last.ok ≡ a → is_zero e ≡ b → (denominator_by (a && b) s last).ok ≡ true → Refuting (denominator_by (a && b) s last)
+    refuting : (a b : Bool) → in_range last ≡ a → is_zero e ≡ b → in_range (denominator_by (a && b) s last) ≡ true → Refuting (denominator_by (a && b) s last)
     unfolding denominator_by
     refuting false b h k ok = absurd (false≢true (sym h ∙ ok))
     refuting true true h k ok = without_pivot last (way_all s.count (omega arith) (unit_vector s.row e) way_start h) k
     refuting true false h k ok = with_pivot last (way_all s.count (omega arith) (unit_vector s.row e) way_start h) k
 
-    pub vector_refutes : (vector_of s t e).ok ≡ true → RefutesTable C s.given (at (vector_of s t e).p) (vector_of s t e).q
+    pub vector_refutes : in_range (vector_of s t e) ≡ true → RefutesTable C s.given (at (vector_of s t e).p) (vector_of s t e).q
     unfolding vector_of
     vector_refutes ok =
-        let r = refuting last.ok (is_zero e) refl refl ok in
+        let r = refuting (in_range last) (is_zero e) refl refl ok in
         let v = vector_in_range s t e ok in
         record { columns = r.columns; constants = r.constants; q_positive = r.q_positive; q_in = v.denominator; numerators_in = v.numerators }

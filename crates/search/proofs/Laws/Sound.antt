@@ -31,7 +31,7 @@ use Rattle.integers.proofs.Laws.Order.{negative_abs, nonnegative_abs, positive_o
 use Rattle.integers.proofs.Laws.Decide.{by_within}
 use Rattle.search.specs.Table.{bound, cell, Bounded, subtraction_fits, swap_columns}
 use Rattle.search.specs.State.{State, pivot_of}
-use Rattle.search.specs.Vector.{Vector, vector_of}
+use Rattle.search.specs.Vector.{Vector, in_range, vector_of}
 use Rattle.search.specs.Step.{first_column, second_column, too_large, quotient, reduce_by, reduce_of, negate_by, swap_by, close_table, residual_of, place_of, solve_by, last_by, closed, passed, placed, place_by, go_on_by, refute_by, close_by, close_of, step_by, step_of}
 use Rattle.search.specs.Run.{is_unfinished}
 use Rattle.search.specs.Code.{last_count, Sound, Reducible, Closable}
@@ -87,7 +87,7 @@ close_onward s j = way (divides e (residual_of s t))
 
     way : (b : Bool) → Onward s (close_by b s t e)
     way true = go_on (is_zero e)
-    way false = refute (vector_of s t e).ok (vector_of s t e)
+    way false = refute (in_range (vector_of s t e)) (vector_of s t e)
 
 pub step_onward : (s : State) → Onward s (step_of s)
 unfolding step_of step_by reduce_of reduce_by
@@ -395,7 +395,7 @@ module _ (s : State) (h : Sound s) where
 
         way : (b : Bool) → is_unfinished (close_by b s C E).outcome ≡ true → Sound (close_by b s C E)
         way true = go_on (is_zero E) refl
-        way false = refute (vector_of s C E).ok (vector_of s C E)
+        way false = refute (in_range (vector_of s C E)) (vector_of s C E)
 
   pub step_sound : is_unfinished (step_of s).outcome ≡ true → Sound (step_of s)
   unfolding step_of step_by reduce_of

@@ -6,15 +6,18 @@
 --                numerator_plain    (factor × s) / e = s / g
 --     Lengths    unit_length        12 numerators at the start
 --                back_length        and after any number of pivot columns
+--     Checked    some_is number_none    what `checked` gives of a vector that is in range, and of one that is not
+--                is_some is_none    and what it says of it
 --     Columns    back_none          no pivot column left
 --                back_more          one pivot column, where the vector is in order
 --                back_stops         a vector that is out of range stays as it is
 --     Ranges     InRange v          numerators and q are at most 1,000,000 in magnitude
---                checked_in_range  unit_in_range  back_in_range  back_all_in_range  vector_in_range
---                                   vectors that are `ok` are in range
+--                range_is  unit_in_range  back_in_range  back_all_in_range  vector_in_range
+--                                   vectors that test as in range are
+--                vector_by          the vector, by the answer of the test whether it has to be given a denominator
 --                range_bounded      the numerators are then Bounded
 --                OutOfRange v       a numerator or q is above 1,000,000 in magnitude: numerator_out or denominator_out
---                vector_out         a vector that is not `ok` is out of range, and only then: out_vector
+--                vector_out         a vector that does not test as in range is out of range, and only then: out_vector
 --
 -- Assumes nothing.
 use mathlib.Core.Path.{◌≡◌, refl, sym, ap, ap₂, subst⁻¹, ◌∙◌}
@@ -28,13 +31,12 @@ use lib.Dec.{eqb}
 use lib.ListN.{length}
 use lib.IntN.{ℤ, pos, neg_ℤ, nat_abs, ◌*ℤ◌, zero-*ℤ}
 use lib.Signed.{quot_z}
+use Rattle.std.proofs.Common.{Some, None}
 use Rattle.integers.specs.Range.{is_zero, within, Positive}
 use Rattle.integers.specs.Divisibility.{◌∣ℤ◌, divides}
 use Rattle.integers.specs.Gcd.{gcd_ℤ}
-use Rattle.integers.specs.NonDivisor.{non_divisor}
-use Rattle.integers.specs.Sum.{dot}
 use Rattle.integers.specs.Below.{all_below}
-use Rattle.integers.specs.Run.{at, tabulate}
+use Rattle.integers.specs.Run.{at}
 use Rattle.integers.proofs.Laws.Ring.{one_mul}
 use Rattle.integers.proofs.Laws.Normaliser.{ring!, quote}
 use Rattle.integers.proofs.Laws.Order.{positive_ne, positive_of}
@@ -46,8 +48,8 @@ use Rattle.integers.proofs.Laws.Decide.{Decides, decides_false, by_and, by_all, 
 use Rattle.integers.proofs.Laws.Run.{at_end, tabulate-length}
 use Rattle.problem.specs.WellFormed.{million}
 use Rattle.search.specs.Table.{cell, Bounded}
-use Rattle.search.specs.State.{State, const_of, pivot_of}
-use Rattle.search.specs.Vector.{Vector, checked, unit_vector, column_sum, factor_of, back_one, back_by, back_from, denominator_by, vector_of}
+use Rattle.search.specs.State.{State, pivot_of}
+use Rattle.search.specs.Vector.{Vector, in_range, checked, unit_vector, column_sum, factor_of, back_one, back_by, back_from, denominator_by, vector_of}
 
 -- Factor ---------------------------------------------------------------------------------------------------------------
 
@@ -92,7 +94,7 @@ module _ (s e : ℤ) (p : Positive e) where
 -- Lengths --------------------------------------------------------------------------------------------------------------
 
 pub unit_length : (i : ℕ) (e : ℤ) → length (unit_vector i e).p ≡ 12
-unfolding unit_vector checked
+unfolding unit_vector
 unit_length i e = tabulate-length 12 (λ k. cond (eqb k i) (pos 1) (pos 0))
 
 module _ (m : ℕ) (t : List ℤ) (i k : ℕ) (v : Vector) where
@@ -104,17 +106,43 @@ module _ (m : ℕ) (t : List ℤ) (i k : ℕ) (v : Vector) where
       cond (eqb r i) (neg_ℤ (quot_z (f *ℤ s) (cell t i k))) (f *ℤ at v.p r)
 
   one_length : length (back_one m t i k v).p ≡ 12
-  unfolding back_one checked
+  unfolding back_one
   one_length = tabulate-length 12 new
 
 pub back_length : (k m : ℕ) (t : List ℤ) (pivot : ℕ → ℕ) (v : Vector) → length v.p ≡ 12 → length (back_from k m t pivot v).p ≡ 12
 unfolding back_from back_by
 back_length zero m t pivot v l = l
-back_length (suc k) m t pivot v l = back_length k m t pivot (back_by v.ok m t (pivot k) k v) (go v.ok)
+back_length (suc k) m t pivot v l = back_length k m t pivot (back_by (in_range v) m t (pivot k) k v) (go (in_range v))
   where
     go : (b : Bool) → length (back_by b m t (pivot k) k v).p ≡ 12
     go true = one_length m t (pivot k) k v
     go false = l
+
+-- Checked --------------------------------------------------------------------------------------------------------------
+
+module _ (v : Vector) where
+  checked_by : {b : Bool} → in_range v ≡ b → checked v ≡ cond b (Some v) None
+  checked_by e = ap (λ (b : Bool). cond b (Some v) None) e
+
+  pub some_is : in_range v ≡ true → Some v ≡ checked v
+  some_is e = sym (checked_by e)
+
+  pub number_none : in_range v ≡ false → None ≡ checked v
+  number_none e = sym (checked_by e)
+
+  pub is_some : (w : Vector) → checked v ≡ Some w → (w ≡ v) × (in_range v ≡ true)
+  is_some w = go (in_range v) refl
+    where
+      go : (b : Bool) → in_range v ≡ b → cond b (Some v) None ≡ Some w → (w ≡ v) × (in_range v ≡ true)
+      go true e f = (cc, e)
+      go false e f = cc
+
+  pub is_none : checked v ≡ None → in_range v ≡ false
+  is_none = go (in_range v) refl
+    where
+      go : (b : Bool) → in_range v ≡ b → cond b (Some v) None ≡ None → in_range v ≡ false
+      go true e f = cc
+      go false e f = e
 
 -- Columns --------------------------------------------------------------------------------------------------------------
 
@@ -123,11 +151,11 @@ module _ (m : ℕ) (t : List ℤ) (pivot : ℕ → ℕ) where
   unfolding back_from
   back_none v = refl
 
-  pub back_more : (k : ℕ) (v : Vector) → v.ok ≡ true → back_from (suc k) m t pivot v ≡ back_from k m t pivot (back_one m t (pivot k) k v)
+  pub back_more : (k : ℕ) (v : Vector) → in_range v ≡ true → back_from (suc k) m t pivot v ≡ back_from k m t pivot (back_one m t (pivot k) k v)
   unfolding back_from back_by
   back_more k v h = ap (λ (b : Bool). back_from k m t pivot (back_by b m t (pivot k) k v)) h
 
-  pub back_stops : (k : ℕ) (v : Vector) → v.ok ≡ false → back_from k m t pivot v ≡ v
+  pub back_stops : (k : ℕ) (v : Vector) → in_range v ≡ false → back_from k m t pivot v ≡ v
   unfolding back_from back_by
   back_stops zero v h = refl
   back_stops (suc k) v h = ap (λ (b : Bool). back_from k m t pivot (back_by b m t (pivot k) k v)) h ∙ back_stops k v h
@@ -141,50 +169,41 @@ pub record InRange (v : Vector) : Type 0 where
 pub range_bounded : {v : Vector} → InRange v → Bounded v.p
 range_bounded {v} h = record { place = λ i. omega (arith, h.numerators i) }
 
--- the test that a vector carries
-abbrev test : List ℤ → ℤ → Bool
-test p q = all_below 12 (λ i. within million (at p i)) && within million q
+by_range : (v : Vector) → Decides (in_range v) (((i : ℕ) → i < 12 → nat_abs (at v.p i) ≤ million) × (nat_abs v.q ≤ million))
+by_range v = by_and (by_all 12 (λ i. within million (at v.p i)) (λ i. nat_abs (at v.p i) ≤ million) (λ i. by_within million (at v.p i))) (by_within million v.q)
 
-by_test : (p : List ℤ) (q : ℤ) → Decides (test p q) (((i : ℕ) → i < 12 → nat_abs (at p i) ≤ million) × (nat_abs q ≤ million))
-by_test p q = by_and (by_all 12 (λ i. within million (at p i)) (λ i. nat_abs (at p i) ≤ million) (λ i. by_within million (at p i))) (by_within million q)
-
-pub checked_in_range : (p : List ℤ) (q : ℤ) → length p ≡ 12 → (checked p q).ok ≡ true → InRange (checked p q)
-unfolding checked
-checked_in_range p q long ok =
-    let h = (by_test p q).yes ok in
+pub range_is : (v : Vector) → length v.p ≡ 12 → in_range v ≡ true → InRange v
+range_is v long ok =
+    let h = (by_range v).yes ok in
     record {
       numerators = λ i. elim (dec_lt i 12) [
         | yes l ↦ h.0 i l
-        | no l ↦ subst⁻¹ (λ (x : ℤ). nat_abs x ≤ million) (at_end p i (omega arith)) (omega arith)
+        | no l ↦ subst⁻¹ (λ (x : ℤ). nat_abs x ≤ million) (at_end v.p i (omega arith)) (omega arith)
       ];
       denominator = h.1;
     }
 
-pub unit_in_range : (i : ℕ) (e : ℤ) → (unit_vector i e).ok ≡ true → InRange (unit_vector i e)
-unfolding unit_vector
-unit_in_range i e h =
-    checked_in_range (tabulate 12 (λ k. cond (eqb k i) (pos 1) (pos 0))) (cond (is_zero e) (pos 1) e) (tabulate-length 12 (λ k. cond (eqb k i) (pos 1) (pos 0))) h
+pub unit_in_range : (i : ℕ) (e : ℤ) → in_range (unit_vector i e) ≡ true → InRange (unit_vector i e)
+unit_in_range i e = range_is (unit_vector i e) (unit_length i e)
 
-pub back_in_range : (m : ℕ) (t : List ℤ) (i k : ℕ) (v : Vector) → (back_one m t i k v).ok ≡ true → InRange (back_one m t i k v)
-unfolding back_one
-back_in_range m t i k v h =
-    checked_in_range (tabulate 12 (new m t i k v)) (factor_of (column_sum m t v.p k) (cell t i k) *ℤ v.q) (tabulate-length 12 (new m t i k v)) h
+pub back_in_range : (m : ℕ) (t : List ℤ) (i k : ℕ) (v : Vector) → in_range (back_one m t i k v) ≡ true → InRange (back_one m t i k v)
+back_in_range m t i k v = range_is (back_one m t i k v) (one_length m t i k v)
 
-pub back_all_in_range : (k m : ℕ) (t : List ℤ) (pivot : ℕ → ℕ) (v : Vector) → (v.ok ≡ true → InRange v) → (back_from k m t pivot v).ok ≡ true → InRange (back_from k m t pivot v)
+pub back_all_in_range : (k m : ℕ) (t : List ℤ) (pivot : ℕ → ℕ) (v : Vector) → (in_range v ≡ true → InRange v) → in_range (back_from k m t pivot v) ≡ true → InRange (back_from k m t pivot v)
 unfolding back_from back_by
 back_all_in_range zero m t pivot v f h = f h
 back_all_in_range (suc k) m t pivot v f h =
-    go v.ok h (back_all_in_range k m t pivot (back_one m t (pivot k) k v) (back_in_range m t (pivot k) k v)) (back_all_in_range k m t pivot v f)
+    go (in_range v) h (back_all_in_range k m t pivot (back_one m t (pivot k) k v) (back_in_range m t (pivot k) k v)) (back_all_in_range k m t pivot v f)
   where
-    go : (b : Bool) → (back_from k m t pivot (back_by b m t (pivot k) k v)).ok ≡ true
-        → ((back_from k m t pivot (back_one m t (pivot k) k v)).ok ≡ true → InRange (back_from k m t pivot (back_one m t (pivot k) k v)))
-        → ((back_from k m t pivot v).ok ≡ true → InRange (back_from k m t pivot v)) → InRange (back_from k m t pivot (back_by b m t (pivot k) k v))
+    go : (b : Bool) → in_range (back_from k m t pivot (back_by b m t (pivot k) k v)) ≡ true
+        → (in_range (back_from k m t pivot (back_one m t (pivot k) k v)) ≡ true → InRange (back_from k m t pivot (back_one m t (pivot k) k v)))
+        → (in_range (back_from k m t pivot v) ≡ true → InRange (back_from k m t pivot v)) → InRange (back_from k m t pivot (back_by b m t (pivot k) k v))
     go true g x y = x g
     go false g x y = y g
 
-pub vector_in_range : (s : State) (t : List ℤ) (e : ℤ) → (vector_of s t e).ok ≡ true → InRange (vector_of s t e)
+pub vector_in_range : (s : State) (t : List ℤ) (e : ℤ) → in_range (vector_of s t e) ≡ true → InRange (vector_of s t e)
 unfolding vector_of denominator_by
-vector_in_range s t e h = go (w.ok && is_zero e) h
+vector_in_range s t e h = go (in_range w && is_zero e) h
   where
     first : Vector
     first = unit_vector s.row e
@@ -192,42 +211,24 @@ vector_in_range s t e h = go (w.ok && is_zero e) h
     w : Vector
     w = back_from s.count s.given.m t (pivot_of s) first
 
-    go : (b : Bool) → (denominator_by b s w).ok ≡ true → InRange (denominator_by b s w)
+    go : (b : Bool) → in_range (denominator_by b s w) ≡ true → InRange (denominator_by b s w)
     go false k = back_all_in_range s.count s.given.m t (pivot_of s) first (unit_in_range s.row e) k
     go true k =
-        checked_in_range w.p (pos (non_divisor (dot s.given.m (at w.p) (const_of s.given))))
+        range_is (denominator_by true s w)
         (back_length s.count s.given.m t (pivot_of s) first (unit_length s.row e)) k
 
--- a vector carries the test of its own numbers
-abbrev Tested : Vector → Type 0
-Tested v = v.ok ≡ test v.p v.q
-
-back_tested : (k m : ℕ) (t : List ℤ) (pivot : ℕ → ℕ) (v : Vector) → Tested v → Tested (back_from k m t pivot v)
-unfolding back_from back_by back_one checked
-back_tested zero m t pivot v h = h
-back_tested (suc k) m t pivot v h = back_tested k m t pivot (back_by v.ok m t (pivot k) k v) (go v.ok)
-  where
-    go : (b : Bool) → Tested (back_by b m t (pivot k) k v)
-    go true = refl
-    go false = h
-
-vector_tested : (s : State) (t : List ℤ) (e : ℤ) → Tested (vector_of s t e)
-unfolding vector_of denominator_by unit_vector checked
-vector_tested s t e = go (w.ok && is_zero e)
-  where
-    w : Vector
-    w = back_from s.count s.given.m t (pivot_of s) (unit_vector s.row e)
-
-    go : (b : Bool) → Tested (denominator_by b s w)
-    go true = refl
-    go false = back_tested s.count s.given.m t (pivot_of s) (unit_vector s.row e) refl
+-- the definition, by the test's answer
+pub vector_by : (s : State) (t : List ℤ) (e : ℤ) (b : Bool) → in_range (back_from s.count s.given.m t (pivot_of s) (unit_vector s.row e)) && is_zero e ≡ b →
+    denominator_by b s (back_from s.count s.given.m t (pivot_of s) (unit_vector s.row e)) ≡ vector_of s t e
+unfolding vector_of
+vector_by s t e b h = ap (λ (x : Bool). denominator_by x s (back_from s.count s.given.m t (pivot_of s) (unit_vector s.row e))) (sym h)
 
 pub data OutOfRange (v : Vector) : Type 0 where
   numerator_out : (i : ℕ) → i < 12 → million < nat_abs (at v.p i) → OutOfRange v
   denominator_out : million < nat_abs v.q → OutOfRange v
 
-pub vector_out : (s : State) (t : List ℤ) (e : ℤ) → (vector_of s t e).ok ≡ false → OutOfRange (vector_of s t e)
-vector_out s t e h = go (all_below 12 (λ i. within million (at v.p i))) refl (sym (vector_tested s t e) ∙ h)
+pub vector_out : (s : State) (t : List ℤ) (e : ℤ) → in_range (vector_of s t e) ≡ false → OutOfRange (vector_of s t e)
+vector_out s t e h = go (all_below 12 (λ i. within million (at v.p i))) refl h
   where
     v : Vector
     v = vector_of s t e
@@ -236,8 +237,8 @@ vector_out s t e h = go (all_below 12 (λ i. within million (at v.p i))) refl (s
     go true p q = denominator_out (leb-false (nat_abs v.q) million q)
     go false p q = let r = all_place 12 (λ i. within million (at v.p i)) p in numerator_out r.0 r.1 (leb-false (nat_abs (at v.p r.0)) million r.2)
 
-pub out_vector : (s : State) (t : List ℤ) (e : ℤ) → OutOfRange (vector_of s t e) → (vector_of s t e).ok ≡ false
-out_vector s t e out = vector_tested s t e ∙ decides_false (by_test (vector_of s t e).p (vector_of s t e).q) (above out)
+pub out_vector : (s : State) (t : List ℤ) (e : ℤ) → OutOfRange (vector_of s t e) → in_range (vector_of s t e) ≡ false
+out_vector s t e out = decides_false (by_range (vector_of s t e)) (above out)
   where
     above : OutOfRange (vector_of s t e) → ((i : ℕ) → i < 12 → nat_abs (at (vector_of s t e).p i) ≤ million) × (nat_abs (vector_of s t e).q ≤ million) → ⊥
     above (numerator_out i l g) r = let h = r.0 i l in omega arith

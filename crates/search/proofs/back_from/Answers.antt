@@ -1,49 +1,62 @@
-use mathlib.Core.Path.{◌≡◌, sym, ◌∙◌, ap, subst⁻¹}
-use mathlib.Core.List.{List}
-use mathlib.Core.Bool.{true}
-use Prim.Native.Nat.{ℕ, suc, ◌-◌, ◌≤◌}
-use native.Mathlib.Omega.{arith}
-use lib.ListN.{get_or}
-use lib.IntN.{ℤ, nat_abs}
-use Rattle.search.specs.Table.{bound, Bounded}
-use Rattle.search.specs.Vector.{Vector, back_one, back_from}
+use Rattle.std.proofs.Common.{◌≡◌, ℕ, suc, ◌-◌, false, get_or, sym, ◌∙◌, ap, subst, arith}
+use Rattle.search.specs.Vector.{in_range, checked, back_one, back_from}
 use Rattle.search.specs.Code.{Backs}
-use Rattle.search.proofs.Laws.Vector.{back_none, back_more, back_stops, back_in_range, range_bounded}
+use Rattle.search.proofs.Laws.Vector.{number_none, some_is, is_some, is_none, back_none, back_more, back_stops, back_in_range, range_bounded}
 use Rattle.search.proofs.back_from.Goals as goal
 
--- what one column leaves can be taken further
-onward : (t : List ℤ) (m : ℕ) (pivots : List ℕ) (count i k : ℕ) (v next : Vector) → Backs t m pivots count v → next ≡ back_one m t i k v → Backs t m pivots count next
-onward t m pivots count i k v next b e = record {
-  rows = b.rows;
-  columns = b.columns;
-  bounded = b.bounded;
-  row = b.row;
-  pivot = b.pivot;
-  numerators = subst⁻¹ (λ (x : Vector). x.ok ≡ true → Bounded x.p) e (λ ok. range_bounded (back_in_range m t i k v ok));
-  denominator = subst⁻¹ (λ (x : Vector). x.ok ≡ true → nat_abs x.q ≤ bound) e (λ ok. omega (arith, (back_in_range m t i k v ok).denominator));
-}
+pub back_one-requires : goal.back_one-requires
+back_one-requires c =
+    let b = c.loop-k.invariant.backs in
+    let k = c.loop-k.k - 1 in
+    let few = b.columns in
+    record {
+      rows = b.rows;
+      row = b.row k (omega arith);
+      column = omega arith;
+      bounded = b.bounded;
+      numerators = b.numerators;
+      denominator = b.denominator;
+      pivot = b.pivot k (omega arith);
+    }
 
-pub returns-then-not-ok : goal.returns-then-not-ok
-returns-then-not-ok c =
+pub returns-in_err-v : goal.returns-in_err-v
+returns-in_err-v c =
     let a = c.args in
-    sym (back_stops a.m a.cells.now (λ j. get_or a.pivots.now j 0) c.loop-k.k c.loop-k.v (c.if-not-ok.true)) ∙ c.loop-k.invariant.2
+    let t = a.cells.now in
+    let pivot : ℕ → ℕ = λ j. get_or a.pivots.now j 0 in
+    let k = c.loop-k.k - 1 in
+    let i = c.loop-k.invariant in
+    let one = back_one a.m t (pivot k) k c.loop-k.v in
+    let out : in_range one ≡ false = is_none one (sym c.back_one.ensures ∙ c.in_err-v.was) in
+    let up : c.loop-k.k ≡ suc k = omega arith in
+    let e : back_from a.count a.m t pivot a.first ≡ one =
+    sym i.same ∙ ap (λ (n : ℕ). back_from n a.m t pivot c.loop-k.v) up ∙ back_more a.m t pivot k c.loop-k.v i.whole ∙ back_stops a.m t pivot k one out in
+    c.from_residual.ensures ∙ number_none one out ∙ ap checked (sym e)
 
 pub loop-k-preserved : goal.loop-k-preserved
 loop-k-preserved c =
     let a = c.args in
-    let k = c.loop-k.k in
+    let t = a.cells.now in
     let pivot : ℕ → ℕ = λ j. get_or a.pivots.now j 0 in
-    let up : suc (k - 1) ≡ k = omega arith in (
-      omega arith,
-      onward a.cells.now a.m a.pivots.now a.count (pivot (k - 1)) (k - 1) c.loop-k.v c.back_one-v.result c.loop-k.invariant.1 c.back_one-v.ensures,
-      ap (back_from (k - 1) a.m a.cells.now pivot) c.back_one-v.ensures
-          ∙ sym (back_more a.m a.cells.now pivot (k - 1) c.loop-k.v (c.if-not-ok.false))
-          ∙ ap (λ (n : ℕ). back_from n a.m a.cells.now pivot c.loop-k.v) up ∙ c.loop-k.invariant.2,
-    )
+    let k = c.loop-k.k - 1 in
+    let i = c.loop-k.invariant in
+    let b = i.backs in
+    let one = back_one a.m t (pivot k) k c.loop-k.v in
+    let r = is_some one c.in_ok-v.v (sym c.back_one.ensures ∙ c.in_ok-v.was) in
+    let up : suc k ≡ c.loop-k.k = omega arith in
+    let h = back_in_range a.m t (pivot k) k c.loop-k.v r.1 in
+    record {
+      backs = subst (Backs t a.m a.pivots.now a.count) (sym r.0)
+          (record { rows = b.rows; columns = b.columns; bounded = b.bounded; row = b.row; pivot = b.pivot; numerators = range_bounded h; denominator = omega (arith, h.denominator) });
+      whole = ap in_range r.0 ∙ r.1;
+      same = ap (back_from k a.m t pivot) r.0 ∙ sym (back_more a.m t pivot k c.loop-k.v i.whole) ∙ ap (λ (n : ℕ). back_from n a.m t pivot c.loop-k.v) up ∙ i.same;
+    }
 
 pub returns : goal.returns
 returns c =
     let a = c.args in
+    let t = a.cells.now in
     let pivot : ℕ → ℕ = λ j. get_or a.pivots.now j 0 in
+    let i = c.loop-k.invariant in
     let none : c.loop-k.k ≡ 0 = omega arith in
-    sym (ap (λ (n : ℕ). back_from n a.m a.cells.now pivot c.loop-k.v) none ∙ back_none a.m a.cells.now pivot c.loop-k.v) ∙ c.loop-k.invariant.2
+    some_is c.loop-k.v i.whole ∙ ap checked (sym (back_none a.m t pivot c.loop-k.v) ∙ ap (λ (n : ℕ). back_from n a.m t pivot c.loop-k.v) (sym none) ∙ i.same)

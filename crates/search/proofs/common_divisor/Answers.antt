@@ -10,7 +10,7 @@ use Rattle.search.proofs.common_divisor.Goals.{After-gcd}
 
 gcd-is : (c : After-gcd) → c.gcd.result ≡ gcd_ℕ (nat_abs c.args.s) (nat_abs c.args.e)
 gcd-is c =
-    c.gcd.ensures ∙ ap₂ gcd_ℕ (c.magnitude.ensures ∙ ap nat_abs (stored_is c.ranges.s)) (c.magnitude-2.ensures ∙ ap nat_abs (stored_is c.ranges.e))
+    c.gcd.ensures ∙ ap₂ gcd_ℕ (c.unsigned_abs.ensures.value ∙ ap nat_abs (stored_is c.ranges.s)) (c.unsigned_abs-2.ensures.value ∙ ap nat_abs (stored_is c.ranges.e))
 
 gcd-small : (c : After-gcd) → c.gcd.result < 2 ^ 63
 gcd-small c =

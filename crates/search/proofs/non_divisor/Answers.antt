@@ -3,16 +3,14 @@ use Prim.Native.Nat.{ℕ, ◌+◌, ◌<◌, ◌≤◌, ◌^◌}
 use native.Mathlib.Omega.{arith}
 use native.Mathlib.Decide.{ℕ_discrete}
 use lib.IntN.{ℤ, pos, nat_abs, ◌+ℤ◌}
-use Rattle.integers.specs.Range.{is_zero}
 use mathlib.Core.Bool.{true, false}
 use mir.Syntax.{w64}
-use mir.Val.{to_z}
+use mir.Val.{to_z, of_z}
 use Rattle.integers.specs.Divisibility.{◌∣ℤ◌, divides}
 use Rattle.integers.specs.NonDivisor.{non_divisor}
-use Rattle.integers.proofs.Laws.Bits.{stored, stored_is, stored_pos}
+use Rattle.integers.proofs.Laws.Bits.{fits, bits_eq, stored, stored_is, stored_pos}
 use Rattle.integers.proofs.Laws.Divisibility.{∣_le, divides_true, divides_false}
 use Rattle.integers.proofs.Laws.NonDivisor.{non_divisor_unique, non_divisor-zero}
-use Rattle.integers.proofs.Laws.Decide.{by_zero, decides_no}
 use Rattle.search.proofs.non_divisor.Goals as goal
 
 -- Q is the number q, S the number s, as they are read back
@@ -26,10 +24,8 @@ module _ (S Q : ℤ) (q : ℕ) (is : Q ≡ pos q) where
   stops : divides Q S ≡ false → pos q ∣ℤ S → ⊥
   stops e = divides_false (pos q) S (ap (λ (x : ℤ). divides x S) (sym is) ∙ e)
 
-pub returns-then-is_zero : goal.returns-then-is_zero
-returns-then-is_zero c =
-    let e = (by_zero c.args.s).yes (ap is_zero (sym (stored_is c.ranges.s)) ∙ sym c.is_zero.ensures ∙ c.if-is_zero.true) in
-    ap pos (sym non_divisor-zero) ∙ ap (λ (x : ℤ). pos (non_divisor x)) (sym e)
+pub returns-then-s-eq0 : goal.returns-then-s-eq0
+returns-then-s-eq0 c = ap pos (sym non_divisor-zero) ∙ ap (λ (x : ℤ). pos (non_divisor x)) (sym (bits_eq c.args.s (pos 0) c.ranges.s (fits (pos 0) (omega arith)) c.if-s-eq0.true))
 
 pub loop-q-preserved : goal.loop-q-preserved
 loop-q-preserved c =
@@ -38,7 +34,7 @@ loop-q-preserved c =
     let q = nat_abs Q in
     let inv = c.loop-q.invariant in
     let small : nat_abs S < 2 ^ 62 = subst⁻¹ (λ (x : ℤ). nat_abs x < 2 ^ 62) (stored_is c.ranges.s) c.requires in
-    let some : S ≡ pos 0 → ⊥ = decides_no (by_zero S) (sym c.is_zero.ensures ∙ c.if-is_zero.false) in
+    let some : S ≡ pos 0 → ⊥ = λ e. c.if-s-eq0.false (ap (of_z w64) (sym (stored_is c.ranges.s) ∙ e)) in
     let by = divided S Q q inv.0 (sym c.divides.ensures ∙ c.if-not-divides.false) in
     let low : q ≤ nat_abs S = ∣_le some by in
     let e : stored (Q +ℤ pos 1) ≡ pos (q + 1) = next S Q q inv.0 inv.2 small in

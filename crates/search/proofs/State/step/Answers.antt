@@ -1,151 +1,111 @@
-use mathlib.Core.Path.{◌≡◌, sym, ◌∙◌, ap, ap₂, subst⁻¹, subst₂}
-use mathlib.Core.Bool.{Bool, true, false}
-use mathlib.Core.List.{List}
-use Prim.Native.Nat.{ℕ, ◌+◌, ◌*◌, ◌-◌, ◌<◌, ◌≤◌}
-use native.Mathlib.Omega.{arith}
+use Rattle.std.proofs.Common.{◌≡◌, Bool, true, false, eqb, ℕ, ◌+◌, ◌-◌, ◌*◌, ◌<◌, ◌≤◌, List, ℤ, nat_abs, sym, ◌∙◌, ap, ap₂, subst, subst₂, arith}
+use Rattle.std.specs.Int.Signed.{quot_z}
 use borrow.Author.Tests.{eq-eqb, ne_eqb}
-use lib.Dec.{eqb}
-use lib.IntN.{ℤ, nat_abs}
-use lib.Signed.{quot_z}
-use Rattle.integers.proofs.Laws.Bits.{stored, stored_is}
+use lib.Signed.{mag}
 use Rattle.integers.proofs.Laws.Division.{quot_le}
+use Rattle.integers.proofs.Laws.Bits.{stored, stored_is}
 use Rattle.search.specs.Table.{bound, cell, subtract_column, subtraction_fits}
 use Rattle.search.specs.State.{State}
 use Rattle.search.specs.Step.{other, first_column, second_column, reduce_by, reduce_of, close_of, step_by, step_of}
-use Rattle.search.specs.Code.{Reducible, Closable}
+use Rattle.search.specs.Code.{last_count, Sound, Reducible, Closable}
 use Rattle.search.proofs.Laws.Sound.{step_reducible, step_closable}
 use Rattle.search.proofs.State.step.Goals as goal
-use Rattle.search.proofs.State.step.Goals.{After-get, After-get-2, After-other-second, After-quotient-q, After-subtraction_fits, Else-second-first, Start}
 
--- where it started, from each place; the state that is taken; both columns, as the code has them
-abbrev of_other : After-other-second → Start
-of_other c = c.before.before.before.before.before
+-- the two columns, as the code has them
+module _ (s : State) {first second : ℕ} (f : first ≡ first_column s) (g : second ≡ other (cell s.cells s.row) first s.count (s.given.width - s.count)) where
+  second_is : second ≡ second_column s
+  second_is = g ∙ ap (λ (f : ℕ). other (cell s.cells s.row) f s.count (s.given.width - s.count)) f
 
-abbrev taken : After-other-second → State
-taken c = (of_other c).args.self
+  -- the definition, by the test's answer
+  by : (b : Bool) → eqb (second_column s) (first_column s) ≡ b → step_by b s (first_column s) (second_column s) ≡ step_of s
+  unfolding step_of
+  by b e = ap (λ (x : Bool). step_by x s (first_column s) (second_column s)) (sym e)
 
-abbrev first : After-other-second → ℕ
-first c = c.least-first.result
+  closable : Sound s → s.steps < last_count → Closable s first
+  closable h few = subst (Closable s) (sym f) (step_closable s h few)
 
-abbrev second : After-other-second → ℕ
-second c = c.other-second.result
+  closing : second ≡ first → close_of s first ≡ step_of s
+  unfolding step_by
+  closing e = ap (close_of s) f ∙ by true (eq-eqb (second_column s) (first_column s) (sym second_is ∙ e ∙ f))
 
--- the place where the columns are known, from those of Reduce
-abbrev columned : After-get → After-other-second
-columned c = c.before.before.before
+  module _ (differ : second ≡ first → ⊥) where
+    reducible : Sound s → s.steps < last_count → Reducible s first second
+    reducible h few = subst₂ (Reducible s) (sym f) (sym second_is) (step_reducible s h few (λ e. differ (second_is ∙ e ∙ sym f)))
 
-abbrev of-get2 : After-get-2 → After-other-second
-of-get2 c = columned c.before.before
+    reducing : reduce_of s first second ≡ step_of s
+    unfolding step_by
+    reducing = ap₂ (reduce_of s) f second_is ∙ by false (ne_eqb (second_column s) (first_column s) (λ e. differ (second_is ∙ e ∙ sym f)))
 
-abbrev of-quotient : After-quotient-q → After-other-second
-of-quotient c = of-get2 c.before
+-- their entries and the quotient, as the code has them
+module _ (s : State) (first second : ℕ) {y x : ℤ} (fy : mag y < 9223372036854775808) (iy : y ≡ cell s.cells s.row second) (fx : mag x < 9223372036854775808) (ix : x ≡ cell s.cells s.row first) where
+  abbrev Q : ℤ
+  Q = quot_z (cell s.cells s.row second) (cell s.cells s.row first)
 
-abbrev of-fits : After-subtraction_fits → After-other-second
-of-fits c = of-quotient c.before.before
+  upper : stored y ≡ cell s.cells s.row second
+  upper = stored_is {z = y} (record { sfits = fy }) ∙ iy
 
--- the entries of the two columns, the second's above the first's
-abbrev upper : After-other-second → ℤ
-upper c = cell (taken c).cells (taken c).row (second c)
+  lower : stored x ≡ cell s.cells s.row first
+  lower = stored_is {z = x} (record { sfits = fx }) ∙ ix
 
-abbrev lower : After-other-second → ℤ
-lower c = cell (taken c).cells (taken c).row (first c)
+  module _ {q : ℤ} (fq : mag q < 9223372036854775808) (iq : q ≡ quot_z (stored y) (stored x)) where
+    quotient_is : stored q ≡ Q
+    quotient_is = stored_is {z = q} (record { sfits = fq }) ∙ iq ∙ ap₂ quot_z upper lower
+
+    quotient_in : Reducible s first second → nat_abs (stored q) ≤ bound
+    quotient_in h = subst (λ (z : ℤ). nat_abs z ≤ bound) (sym quotient_is) (omega (arith, quot_le (cell s.cells s.row second) (cell s.cells s.row first), h.bounded.place (s.row * 24 + second)))
+
+    fits_by : (t : Bool) → t ≡ subtraction_fits s.cells first second (stored q) → reduce_by t s first second Q ≡ reduce_of s first second
+    unfolding reduce_of
+    fits_by t e = ap (λ (b : Bool). reduce_by b s first second Q) (e ∙ ap (subtraction_fits s.cells first second) quotient_is)
 
 -- the same state one step on, at other cells
 abbrev onward : State → List ℤ → State
 onward s l = record { given = s.given; cells = l; row = s.row; count = s.count; pivots = s.pivots; zs = s.zs; steps = s.steps + 1; outcome = s.outcome; found = s.found }
 
--- the values, where the code has them
-first_is : (c : After-other-second) → first c ≡ first_column (taken c)
-first_is c = c.least-first.ensures
-
-second_is : (c : After-other-second) → second c ≡ second_column (taken c)
-second_is c =
-    let s = taken c in
-    c.other-second.ensures ∙ ap (λ (f : ℕ). other (cell s.cells s.row) f s.count (s.given.width - s.count)) (first_is c)
-
-upper_is : (c : After-get) → stored c.get.result ≡ upper (columned c)
-upper_is c = stored_is (record { sfits = c.get.type_inv }) ∙ c.get.ensures
-
-lower-is : (c : After-get-2) → stored c.get-2.result ≡ lower (of-get2 c)
-lower-is c = stored_is (record { sfits = c.get-2.type_inv }) ∙ c.get-2.ensures
-
-quotient_is : (c : After-quotient-q) → stored c.quotient-q.result ≡ quot_z (upper (of-quotient c)) (lower (of-quotient c))
-quotient_is c = stored_is (record { sfits = c.quotient-q.type_inv }) ∙ c.quotient-q.ensures ∙ ap₂ quot_z (upper_is c.before.before.before) (lower-is c.before)
-
-quotient-in : (c : After-quotient-q) → nat_abs (stored c.quotient-q.result) ≤ bound
-quotient-in c =
-    let o = of-quotient c in
-    subst⁻¹ (λ (z : ℤ). nat_abs z ≤ bound) (quotient_is c) (omega (arith, quot_le (upper o) (lower o), (of_other o).requires.0.bounded.place ((taken o).row * 24 + second o)))
-
--- what Reduce asks, where the columns differ
-reducible : (c : Else-second-first) → Reducible (taken c.before) (first c.before) (second c.before)
-reducible c =
-    let s = of_other c.before in
-    subst₂ (Reducible (taken c.before)) (sym (first_is c.before)) (sym (second_is c.before)) (step_reducible (taken c.before) s.requires.0 s.requires.1 (λ e. c.if-second-first.false (second_is c.before ∙ e ∙ sym (first_is c.before))))
-
--- where the columns were found to differ, from the places of Reduce
-abbrev differ : After-get → Else-second-first
-differ c = c.before.before
-
-abbrev differ2 : After-get-2 → Else-second-first
-differ2 c = differ c.before.before
-
--- the definition, by the tests' answers
-way : (s : State) (b : Bool) → eqb (second_column s) (first_column s) ≡ b → step_by b s (first_column s) (second_column s) ≡ step_of s
-unfolding step_of
-way s b e = ap (λ (x : Bool). step_by x s (first_column s) (second_column s)) (sym e)
-
-reduce-way : (c : After-subtraction_fits) (t : Bool) → c.subtraction_fits.result ≡ t →
-    let o = of-fits c in
-    reduce_by t (taken o) (first o) (second o) (quot_z (upper o) (lower o)) ≡ step_of (taken o)
-unfolding reduce_of step_by
-reduce-way c t e =
-    let o = of-fits c in
-    let s = taken o in
-    let d = differ2 c.before.before.before in
-    ap (λ (x : Bool). reduce_by x s (first o) (second o) (quot_z (upper o) (lower o)))
-    (sym e ∙ c.subtraction_fits.ensures ∙ ap (subtraction_fits s.cells (first o) (second o)) (quotient_is c.before.before))
-    ∙ ap₂ (reduce_of s) (first_is o) (second_is o)
-    ∙ way s false (ne_eqb (second_column s) (first_column s) (λ h. d.if-second-first.false (second_is o ∙ h ∙ sym (first_is o))))
-
 pub close-requires : goal.close-requires
-close-requires c =
-    let s = of_other c.before in
-    subst⁻¹ (Closable (taken c.before)) (first_is c.before) (step_closable (taken c.before) s.requires.0 s.requires.1)
+close-requires c = closable c.args.self c.least-first.ensures c.other-second.ensures c.requires.0 c.requires.1
 
 pub returns-then-second-first : goal.returns-then-second-first
-unfolding step_by
-returns-then-second-first c =
-    let s = taken c.before.before in
-    c.close.ensures ∙ ap (close_of s) (first_is c.before.before) ∙ way s true (eq-eqb (second_column s) (first_column s) (sym (second_is c.before.before) ∙ c.if-second-first.true ∙ first_is c.before.before))
+returns-then-second-first c = c.close.ensures ∙ closing c.args.self c.least-first.ensures c.other-second.ensures c.if-second-first.true
 
 pub get-requires : goal.get-requires
-get-requires c = let h = reducible c.before in (h.row, h.second_in)
+get-requires c = let h = reducible c.args.self c.least-first.ensures c.other-second.ensures c.if-second-first.false c.requires.0 c.requires.1 in (h.row, h.second_in)
 
 pub get-requires-2 : goal.get-requires-2
-get-requires-2 c = let h = reducible (differ c.before) in (h.row, h.first_in)
+get-requires-2 c = let h = reducible c.args.self c.least-first.ensures c.other-second.ensures c.if-second-first.false c.requires.0 c.requires.1 in (h.row, h.first_in)
 
 pub quotient-q-requires : goal.quotient-q-requires
 quotient-q-requires c =
-    let h = reducible (differ2 c) in (
-      subst⁻¹ (λ (z : ℤ). nat_abs z ≤ bound) (upper_is c.before.before) (h.bounded.place _),
-      subst⁻¹ (λ (z : ℤ). 0 < nat_abs z) (lower-is c) h.some,
-      subst₂ (λ (x y : ℤ). nat_abs x ≤ nat_abs y) (sym (lower-is c)) (sym (upper_is c.before.before)) h.less,
+    let h = reducible c.args.self c.least-first.ensures c.other-second.ensures c.if-second-first.false c.requires.0 c.requires.1 in
+    let y = upper c.args.self c.least-first.result c.other-second.result c.get.type_inv c.get.ensures c.get-2.type_inv c.get-2.ensures in
+    let x = lower c.args.self c.least-first.result c.other-second.result c.get.type_inv c.get.ensures c.get-2.type_inv c.get-2.ensures in (
+      subst (λ (z : ℤ). nat_abs z ≤ bound) (sym y) (h.bounded.place _),
+      subst (λ (z : ℤ). 0 < nat_abs z) (sym x) h.some,
+      subst₂ (λ (x y : ℤ). nat_abs x ≤ nat_abs y) (sym x) (sym y) h.less,
     )
 
 pub subtraction_fits-requires : goal.subtraction_fits-requires
-subtraction_fits-requires c = let h = reducible (differ2 c.before.before) in (h.first_in, h.second_in, quotient-in c.before, h.bounded)
+subtraction_fits-requires c =
+    let h = reducible c.args.self c.least-first.ensures c.other-second.ensures c.if-second-first.false c.requires.0 c.requires.1 in
+    (h.first_in, h.second_in, quotient_in c.args.self c.least-first.result c.other-second.result c.get.type_inv c.get.ensures c.get-2.type_inv c.get-2.ensures c.quotient-q.type_inv c.quotient-q.ensures h, h.bounded)
+
+pub returns-then-not-subtraction_fits : goal.returns-then-not-subtraction_fits
+unfolding reduce_by
+returns-then-not-subtraction_fits c =
+    c.too_large.ensures
+    ∙ fits_by c.args.self c.least-first.result c.other-second.result c.get.type_inv c.get.ensures c.get-2.type_inv c.get-2.ensures c.quotient-q.type_inv c.quotient-q.ensures false (sym c.if-not-subtraction_fits.true ∙ c.subtraction_fits.ensures)
+    ∙ reducing c.args.self c.least-first.ensures c.other-second.ensures c.if-second-first.false
 
 pub subtract_column-requires : goal.subtract_column-requires
-subtract_column-requires c = let h = reducible (differ2 c.before.before.before.before.before) in (h.first_in, h.second_in, quotient-in c.before.before.before.before, h.bounded)
-
-pub returns-then-subtraction_fits : goal.returns-then-subtraction_fits
-unfolding reduce_by
-returns-then-subtraction_fits c =
-    let o = of-fits c.before.before.before in
-    ap (onward (taken o)) (c.subtract_column.ensures ∙ ap (subtract_column (taken o).cells (first o) (second o)) (quotient_is c.before.before.before.before.before))
-    ∙ reduce-way c.before.before.before true c.if-subtraction_fits.true
+subtract_column-requires c =
+    let h = reducible c.args.self c.least-first.ensures c.other-second.ensures c.if-second-first.false c.requires.0 c.requires.1 in
+    (h.first_in, h.second_in, quotient_in c.args.self c.least-first.result c.other-second.result c.get.type_inv c.get.ensures c.get-2.type_inv c.get-2.ensures c.quotient-q.type_inv c.quotient-q.ensures h, h.bounded)
 
 pub returns : goal.returns
 unfolding reduce_by
-returns c = c.too_large.ensures ∙ reduce-way c.before.before false c.if-subtraction_fits.false
+returns c =
+    let s = c.args.self in
+    let q = quotient_is c.args.self c.least-first.result c.other-second.result c.get.type_inv c.get.ensures c.get-2.type_inv c.get-2.ensures c.quotient-q.type_inv c.quotient-q.ensures in
+    ap (onward s) (c.subtract_column.ensures ∙ ap (subtract_column s.cells c.least-first.result c.other-second.result) q)
+    ∙ fits_by c.args.self c.least-first.result c.other-second.result c.get.type_inv c.get.ensures c.get-2.type_inv c.get-2.ensures c.quotient-q.type_inv c.quotient-q.ensures true (sym c.if-not-subtraction_fits.false ∙ c.subtraction_fits.ensures)
+    ∙ reducing c.args.self c.least-first.ensures c.other-second.ensures c.if-second-first.false

@@ -1,90 +1,110 @@
-use mathlib.Core.Path.{◌≡◌, refl, sym, ◌∙◌, ap, ap₂, subst⁻¹}
-use mathlib.Core.Bool.{Bool, true, false, ◌&&◌}
-use Prim.Native.Nat.{◌<◌, ◌≤◌, ◌^◌}
-use native.Mathlib.Omega.{arith}
-use lib.IntN.{ℤ, pos, nat_abs}
+use Rattle.std.proofs.Common.{◌≡◌, Bool, true, false, ◌&&◌, Option, Some, None, SFits, w64, ◌<◌, ◌^◌, ℤ, pos, nat_abs, sym, ◌∙◌, ap, ap₂, subst, arith}
 use Rattle.integers.specs.Range.{is_zero}
 use Rattle.integers.specs.NonDivisor.{non_divisor}
 use Rattle.integers.specs.Sum.{dot}
 use Rattle.integers.specs.Run.{at}
 use Rattle.integers.proofs.Laws.Bits.{stored, stored_is}
-use Rattle.search.specs.Table.{bound, Bounded}
-use Rattle.search.specs.State.{const_of, pivot_of}
-use Rattle.search.specs.Vector.{Vector, checked, unit_vector, back_from, denominator_by, vector_of}
-use Rattle.search.proofs.Laws.Sums.{dot_small}
-use Rattle.search.proofs.Laws.Vector.{unit_in_range, back_all_in_range, range_bounded}
+use Rattle.search.specs.Table.{Bounded}
+use Rattle.search.specs.State.{State, const_of, pivot_of}
+use Rattle.search.specs.Vector.{Vector, in_range, checked, unit_vector, back_from, denominator_by, vector_of}
+use Rattle.search.specs.Code.{Backs, Vectorable}
+use Rattle.search.proofs.Laws.Sums.{dot_small, is_zero_yes, is_zero_no}
+use Rattle.search.proofs.Laws.Vector.{some_is, number_none, is_some, is_none, back_stops, unit_in_range, back_all_in_range, range_bounded, vector_by}
 use Rattle.search.proofs.State.vector.Goals as goal
-use Rattle.search.proofs.State.vector.Goals.{After-back_from-v, After-both, After-constant_sum-s, After-unit_vector, Start, Then-both}
 
--- the vector when all pivot columns are done
-abbrev W : Start → Vector
-W s = back_from s.args.self.count s.args.self.given.m s.args.t (pivot_of s.args.self) (unit_vector s.args.self.row s.args.e)
+module _ (s : State) (e : ℤ) where
+  -- the vector at first, and when all pivot columns are done
+  abbrev first : Vector
+  first = unit_vector s.row e
 
--- the values, where the code has them
-unit-is : (c : After-unit_vector) → c.unit_vector.result ≡ unit_vector c.args.self.row c.args.e
-unit-is c = c.unit_vector.ensures ∙ ap (unit_vector c.args.self.row) (stored_is c.ranges.e)
+  abbrev last : Vector
+  last = back_from s.count s.given.m s.cells (pivot_of s) first
 
-back_is : (c : After-back_from-v) → c.back_from-v.result ≡ W c.before.before.before.before.before.before
-back_is c =
-    c.back_from-v.ensures ∙ ap (back_from c.args.self.count c.args.self.given.m c.args.t (pivot_of c.args.self)) (unit-is c.before)
+  backs : Vectorable s s.cells → in_range first ≡ true → Backs s.cells s.given.m s.pivots s.count first
+  backs h ok =
+      let r = unit_in_range s.row e ok in
+      record { rows = h.rows; columns = h.columns; bounded = h.bounded; row = h.row; pivot = h.pivot; numerators = range_bounded r; denominator = omega (arith, r.denominator) }
 
-flag_is : (c : After-both) → c.both.result ≡ (W c.before.before.before.before.before.before.before.before).ok && is_zero c.args.e
-flag_is c =
-    c.both.ensures ∙ ap₂ (λ (a b : Bool). a && b) (ap (λ (x : Vector). x.ok) (back_is c.before.before)) (c.is_zero.ensures ∙ ap is_zero (stored_is c.ranges.e))
+  out_first : in_range first ≡ false → last ≡ first
+  out_first out = back_stops s.given.m s.cells (pivot_of s) s.count first out
 
--- the definition, by the test's answer
-way : (c : After-both) (b : Bool) → c.both.result ≡ b → denominator_by b c.args.self (W c.before.before.before.before.before.before.before.before) ≡ vector_of c.args.self c.args.t c.args.e
-unfolding vector_of
-way c b h = ap (λ (x : Bool). denominator_by x c.args.self (W c.before.before.before.before.before.before.before.before)) (sym h ∙ flag_is c)
+  -- a vector that is out of range stays as it is
+  out_last : in_range last ≡ false → None ≡ checked (vector_of s s.cells e)
+  unfolding denominator_by
+  out_last out = number_none last out ∙ ap checked (vector_by s s.cells e false (ap (λ (b : Bool). b && is_zero e) out))
 
-and_left : (a b : Bool) → a && b ≡ true → a ≡ true
-and_left true b e = refl
-and_left false b e = e
+  -- with a pivot it has its denominator
+  with_pivot : in_range last ≡ true → is_zero e ≡ false → Some last ≡ checked (vector_of s s.cells e)
+  unfolding denominator_by
+  with_pivot ok some = some_is last ok ∙ ap checked (vector_by s s.cells e false (ap₂ (λ (a b : Bool). a && b) ok some))
 
-numerators : (c : Then-both) → Bounded c.back_from-v.result.p
-numerators c =
-    let ok = and_left (W c.before.before.before.before.before.before.before.before.before).ok (is_zero c.args.e) (sym (flag_is c.before) ∙ c.if-both.true) in
-    let first = unit_vector c.args.self.row c.args.e in
-    subst⁻¹ (λ (x : Vector). Bounded x.p) (back_is c.before.before.before)
-    (range_bounded (back_all_in_range c.args.self.count c.args.self.given.m c.args.t (pivot_of c.args.self) first (unit_in_range c.args.self.row c.args.e) ok))
+  -- without, it is given one
+  without_pivot : in_range last ≡ true → is_zero e ≡ true → checked (record { p = last.p; q = pos (non_divisor (dot s.given.m (at last.p) (const_of s.given))) }) ≡ checked (vector_of s s.cells e)
+  unfolding denominator_by
+  without_pivot ok none = ap checked (vector_by s s.cells e true (ap₂ (λ (a b : Bool). a && b) ok none))
 
-sum_is : (c : After-constant_sum-s) → let g = c.args.self.given in
-    stored c.constant_sum-s.result ≡ dot g.m (at c.back_from-v.result.p) (const_of g)
-sum_is c = stored_is (record { sfits = c.constant_sum-s.type_inv }) ∙ c.constant_sum-s.ensures
+  numerators : in_range last ≡ true → Bounded last.p
+  numerators ok = range_bounded (back_all_in_range s.count s.given.m s.cells (pivot_of s) first (unit_in_range s.row e) ok)
 
-pub back_from-v-requires : goal.back_from-v-requires
-back_from-v-requires c =
-    let h = c.requires in
-    let i = c.args.self.row in
+  -- the vector that was found, by what the two calls answered
+  found : SFits w64 e → {u o : Option Vector} {x y : Vector} → u ≡ checked (unit_vector s.row (stored e)) → u ≡ Some x
+      → o ≡ checked (back_from s.count s.given.m s.cells (pivot_of s) x) → o ≡ Some y → (y ≡ last) × (in_range last ≡ true)
+  found f {x} {y} eu wu eo wo =
+      let r = is_some (unit_vector s.row (stored e)) x (sym eu ∙ wu) in
+      let is = ap (back_from s.count s.given.m s.cells (pivot_of s)) (r.0 ∙ ap (unit_vector s.row) (stored_is f)) in
+      let v = is_some (back_from s.count s.given.m s.cells (pivot_of s) x) y (sym eo ∙ wo) in
+      (v.0 ∙ is, ap in_range (sym is) ∙ v.1)
+
+pub returns-in_err-first : goal.returns-in_err-first
+returns-in_err-first c =
+    let s = c.args.self.now in
     let e = c.args.e in
-    record {
-      rows = h.rows;
-      columns = h.columns;
-      bounded = h.bounded;
-      row = h.row;
-      pivot = h.pivot;
-      numerators = subst⁻¹ (λ (x : Vector). x.ok ≡ true → Bounded x.p) (unit-is c) (λ ok. range_bounded (unit_in_range i e ok));
-      denominator = subst⁻¹ (λ (x : Vector). x.ok ≡ true → nat_abs x.q ≤ bound) (unit-is c) (λ ok. omega (arith, (unit_in_range i e ok).denominator));
-    }
+    let out = ap in_range (ap (unit_vector s.row) (sym (stored_is c.ranges.e))) ∙ is_none (unit_vector s.row (stored e)) (sym c.unit_vector.ensures ∙ c.in_err-first.was) in
+    c.from_residual.ensures ∙ out_last s e (ap in_range (out_first s e out) ∙ out)
+
+pub back_from-requires : goal.back_from-requires
+back_from-requires c =
+    let s = c.args.self.now in
+    let r = is_some (unit_vector s.row (stored c.args.e)) c.in_ok-first.first (sym c.unit_vector.ensures ∙ c.in_ok-first.was) in
+    let is = r.0 ∙ ap (unit_vector s.row) (stored_is c.ranges.e) in
+    let ok = ap in_range (ap (unit_vector s.row) (sym (stored_is c.ranges.e))) ∙ r.1 in
+    (subst (Backs s.cells s.given.m s.pivots s.count) (sym is) (backs s c.args.e c.requires ok), ap in_range is ∙ ok)
+
+pub returns-in_err-v : goal.returns-in_err-v
+returns-in_err-v c =
+    let s = c.args.self.now in
+    let x = c.in_ok-first.first in
+    let r = is_some (unit_vector s.row (stored c.args.e)) x (sym c.unit_vector.ensures ∙ c.in_ok-first.was) in
+    let is = ap (back_from s.count s.given.m s.cells (pivot_of s)) (r.0 ∙ ap (unit_vector s.row) (stored_is c.ranges.e)) in
+    c.from_residual-in_err-v.ensures ∙ out_last s c.args.e (ap in_range (sym is) ∙ is_none (back_from s.count s.given.m s.cells (pivot_of s) x) (sym c.back_from.ensures ∙ c.in_err-v.was))
+
+pub returns-then-e-ne0 : goal.returns-then-e-ne0
+returns-then-e-ne0 c =
+    let s = c.args.self.now in
+    let v = found s c.args.e c.ranges.e c.unit_vector.ensures c.in_ok-first.was c.back_from.ensures c.in_ok-v.was in
+    ap (λ (v : Vector). Some v) v.0 ∙ with_pivot s c.args.e v.1 (is_zero_no c.args.e c.ranges.e c.if-e-ne0.true)
 
 pub constant_sum-s-requires : goal.constant_sum-s-requires
 constant_sum-s-requires c =
-    (c.requires.rows, numerators c.before.before.before.before, c.requires.consts)
+    let v = found c.args.self.now c.args.e c.ranges.e c.unit_vector.ensures c.in_ok-first.was c.back_from.ensures c.in_ok-v.was in
+    (c.requires.rows, subst (λ (v : Vector). Bounded v.p) (sym v.0) (numerators c.args.self.now c.args.e v.1), c.requires.consts)
 
 pub non_divisor-requires : goal.non_divisor-requires
 non_divisor-requires c =
-    let h = dot_small (at c.back_from-v.result.p) (const_of c.args.self.given) (numerators c.before.before.before.before.before).place c.requires.consts.place c.args.self.given.m c.requires.rows in
-    subst⁻¹ (λ (x : ℤ). nat_abs x < 2 ^ 62) (sum_is c) (omega arith)
-
-pub returns-then-both : goal.returns-then-both
-unfolding denominator_by
-returns-then-both c =
-    let g = c.args.self.given in
-    let q = stored_is (record { sfits = c.non_divisor.type_inv }) ∙ c.non_divisor.ensures ∙ ap (λ (x : ℤ). pos (non_divisor x)) (sum_is c.before.before) in
-    c.checked.ensures ∙ ap (checked c.back_from-v.result.p) q
-    ∙ ap (λ (x : Vector). checked x.p (pos (non_divisor (dot g.m (at x.p) (const_of g))))) (back_is c.before.before.before.before.before.before.before.before.before.before)
-    ∙ way c.before.before.before.before.before.before.before.before true c.if-both.true
+    let s = c.args.self.now in
+    let v = found s c.args.e c.ranges.e c.unit_vector.ensures c.in_ok-first.was c.back_from.ensures c.in_ok-v.was in
+    let p = subst (λ (v : Vector). Bounded v.p) (sym v.0) (numerators s c.args.e v.1) in
+    let sum = stored_is (record { sfits = c.constant_sum-s.type_inv }) ∙ c.constant_sum-s.ensures in
+    subst (λ (x : ℤ). nat_abs x < 2 ^ 62) (sym sum) (omega (arith, dot_small (at c.in_ok-v.v.p) (const_of s.given) p.place c.requires.consts.place s.given.m c.requires.rows))
 
 pub returns : goal.returns
-unfolding denominator_by
-returns c = back_is c.before.before.before ∙ way c.before false c.if-both.false
+returns c =
+    let s = c.args.self.now in
+    let g = s.given in
+    let v = found s c.args.e c.ranges.e c.unit_vector.ensures c.in_ok-first.was c.back_from.ensures c.in_ok-v.was in
+    let sum = stored_is (record { sfits = c.constant_sum-s.type_inv }) ∙ c.constant_sum-s.ensures in
+    let q = stored_is (record { sfits = c.non_divisor.type_inv }) ∙ c.non_divisor.ensures ∙ ap (λ (x : ℤ). pos (non_divisor x)) sum in
+    c.checked.ensures
+    ∙ ap (λ (q : ℤ). checked (record { p = c.in_ok-v.v.p; q = q })) q
+    ∙ ap (λ (v : Vector). checked (record { p = v.p; q = pos (non_divisor (dot g.m (at v.p) (const_of g))) })) v.0
+    ∙ without_pivot s c.args.e v.1 (is_zero_yes c.args.e c.ranges.e c.if-e-ne0.false)
