@@ -2,7 +2,6 @@
 --
 --     Text      text written into a run, piece by piece
 --     Hex       lengths and ranges of numbers in hexadecimal
---     Signed    two's complement by sums at 64 bits
 --     Problem   what the refusals before any search say
 --     Frames    lengths of frames, and which answer is given when
 --     Digits    digits that are written are digits, and are read back
@@ -12,7 +11,6 @@
 --     Zeros     runs of zeros
 pub mod Text
 pub mod Hex
-pub mod Signed
 pub mod Problem
 pub mod Frames
 pub mod Digits

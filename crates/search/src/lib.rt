@@ -128,11 +128,12 @@ impl State {
         ensures sound { Sound result }
         ensures no_steps { result.steps ≡ 0 }
     {
+        let m = rows.problem.ma + rows.problem.mb;
         State {
             given: Given {
                 n: rows.problem.n,
-                m: rows.problem.ma + rows.problem.mb,
-                width: own_column(rows, rows.problem.ma + rows.problem.mb),
+                m,
+                width: own_column(rows, m),
                 consts: constants(rows),
             },
             cells: start_table(rows),
@@ -208,7 +209,9 @@ impl State {
         self
     }
 
-    // The current row refutes, with pivot e or with none.
+    // The current row refutes, with pivot e or with none. Kept out of line, as the last row's end is, so that the other steps copy no
+    // second table.
+    #[inline(never)]
     fn refute(self, j: usize, e: i64) -> State
         requires { Closable self j }
         ensures { result ≡ close_by false self (close_table self.cells self.row j self.count) e }
@@ -228,6 +231,7 @@ impl State {
     }
 
     // The last row closes, with pivot e that divides the residual r, or with neither.
+    #[inline(never)]
     fn close_last(self, j: usize, e: i64, r: i64) -> State
         requires { Closable self j × (r ≡ residual_of self (close_table self.cells self.row j self.count)) }
         ensures { result ≡ close_by true self (close_table self.cells self.row j self.count) e }
@@ -291,6 +295,7 @@ impl State {
         array::from_fn(|k| self.point_at(k))
     }
 
+    // A place of the point.
     #[tactic(auto, unfolding(crate::specs::Step::place_of))]
     fn point_at(&self, k: usize) -> i64
         requires { Solvable self.now × (k < 12) }

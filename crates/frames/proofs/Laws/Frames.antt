@@ -3,7 +3,6 @@
 --     Lengths    refutation_length  point_length  unfinished_length  interpolant_length  refusal-length
 --     Answers    answer_refused     a line that is refused before any search: frame 06 with that number
 --                answer_problem     any other: the answer to its problem
---                answer_judged      what the checker answers and leaves gives the answer to a refuted problem
 --                answer_searched    what the search answers and leaves gives the answer to the problem
 --                answer_lines       the problem that a line is read as
 --
@@ -17,13 +16,11 @@ use lib.IntN.{ℤ}
 use Rattle.std.specs.Prelude.{Option, Some, None, Result}
 use Rattle.problem.specs.declared.Refusal.{Refusal}
 use Rattle.problem.specs.Refusal.{number_of}
-use Rattle.checker.specs.Answer.{judge_answer, judge_run}
-use Rattle.checker.specs.declared.Fact.{Fact}
 use Rattle.search.specs.Answer.{search_reply, search_vector, search_point}
 use Rattle.search.specs.declared.Answer.{Answer}
 use Rattle.frames.specs.declared.Head.{Head}
 use Rattle.frames.specs.Problem.{line_refusal, side_long, numbers_at, head_of}
-use Rattle.frames.specs.Answer.{refutation_frame, point_frame, unfinished_frame, interpolant_frame, refusal_frame, fact_answer, refuted_answer, reply_answer, problem_answer, zeros, problem_lines, answer_by, answer_of}
+use Rattle.frames.specs.Answer.{refutation_frame, point_frame, unfinished_frame, interpolant_frame, refusal_frame, reply_answer, problem_answer, zeros, problem_lines, answer_by, answer_of}
 use Rattle.frames.proofs.Laws.Hex.{hex-length, hexes-length}
 
 -- Lengths --------------------------------------------------------------------------------------------------------------
@@ -58,14 +55,6 @@ module _ (l : List ℕ) where
   pub answer_problem : line_refusal l ≡ None → problem_lines l ≡ answer_of l
   unfolding answer_of
   answer_problem e = ap (λ (k : Option Refusal). answer_by k (problem_lines l)) (sym e)
-
-module _ (n ma mb : ℕ) (a b vector coeffs : List ℤ) (steps : ℕ) {q q' : ℤ} (is-q : q' ≡ q) where
-  -- what the checker answers and leaves gives the answer
-  pub answer_judged : (r : Result Fact Refusal) (left : List ℤ) → r ≡ judge_answer n ma mb a b q' vector coeffs → left ≡ judge_run n ma mb a b q' vector coeffs →
-      fact_answer r n (ma + mb) steps q' vector left ≡ refuted_answer q steps n ma mb a b vector coeffs
-  answer_judged r left e f =
-      ap₂ (λ (r : Result Fact Refusal) (left : List ℤ). fact_answer r n (ma + mb) steps q' vector left) e f
-      ∙ ap (λ (q : ℤ). refuted_answer q steps n ma mb a b vector coeffs) is-q
 
 module _ (n ma mb : ℕ) (a b : List ℤ) (t : ℕ) {vector point : List ℤ} (is-vector : vector ≡ zeros (ma + mb)) (is-point : point ≡ zeros n) where
   answered : (vector point coeffs : List ℤ) (r : Result Answer Refusal) (v p : List ℤ) → r ≡ search_reply n ma mb a b t vector point → v ≡ search_vector n ma mb a b t vector point →

@@ -2,7 +2,7 @@
 --
 --     Read       digit_below       a digit's value is below 16
 --                value_below       k digits stand for a number below 16 ^ k
---                value_small       at most 8 digits stand for a number below 2^32
+--                value_room        after fewer than 8 digits there is room for one more in 32 bits
 --                value_more        one digit more
 --     Written    hex-length        hex k v is k long            hexes-length    hexes k run is k times as long as the run
 --                hex_turn          the lowest digit, and before it the others
@@ -46,9 +46,6 @@ pub value_below : (l : List ℕ) (i k : ℕ) → value_at l i k < 16 ^ k
 unfolding value_at
 value_below l i zero = omega arith
 value_below l i (suc k) = rw (pow-suc 16 k) (omega (arith, value_below l i k, digit_below (get_or l (i + k) 0)))
-
-pub value_small : (l : List ℕ) (i k : ℕ) → k ≤ 8 → value_at l i k < 2 ^ 32
-value_small l i k h = omega (arith, value_below l i k, pow-le-pow_right {n = 16} (omega arith) {i = k} {j = 8} h)
 
 pub value_room : (l : List ℕ) (i k : ℕ) → k < 8 → value_at l i k * 16 + 15 < 2 ^ 32
 value_room l i k h = omega (arith, value_below l i k, pow-le-pow_right {n = 16} (omega arith) {i = k} {j = 7} (omega arith))

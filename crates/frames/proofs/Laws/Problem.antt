@@ -9,15 +9,16 @@
 --     readable        and its head says what it has
 --
 -- Assumes nothing.
-use mathlib.Core.Path.{◌≡◌, refl, sym, ◌∙◌, ap}
+use mathlib.Core.Path.{◌≡◌, refl, sym, ◌∙◌}
 use mathlib.Core.Bool.{Bool, true, false, ◌&&◌}
 use mathlib.Core.List.{List, [], ◌∷◌}
-use Prim.Native.Nat.{ℕ, zero, suc, ◌+◌, ◌*◌, ◌%◌, ◌≤◌}
+use Prim.Native.Nat.{ℕ, ◌+◌, ◌*◌, ◌%◌, ◌≤◌}
 use native.Mathlib.Nat.{mul-le-mul, add-mul}
 use native.Mathlib.Omega.{arith}
-use lib.ListN.{length, get_or}
-use Rattle.std.specs.List.{fold}
-use Rattle.integers.specs.Below.{all_below}
+use lib.ListN.{length}
+use Rattle.std.proofs.Math.Bool.{and_assoc, and-true}
+use Rattle.std.specs.List.{fold, list_all}
+use Rattle.integers.proofs.Laws.Below.{all_list}
 use Rattle.integers.proofs.Laws.Decide.{Decides, by_le, by_eq, by_and}
 use Rattle.std.specs.Prelude.{None}
 use Rattle.problem.specs.declared.Refusal.TheVariants.{WrongShape, NoFrame}
@@ -29,31 +30,12 @@ use Rattle.frames.specs.Code.{Readable}
 pub small : (m n : ℕ) → m ≤ 12 → n ≤ 12 → side_long n m ≤ 168
 small m n h k = let l : n + 2 ≤ 14 = omega arith in mul-le-mul h l
 
-and_assoc : (a b c : Bool) → (a && b) && c ≡ a && (b && c)
-and_assoc true b c = refl
-and_assoc false b c = refl
-
--- one place more in front
-all_front : (n : ℕ) (t : ℕ → Bool) → all_below (suc n) t ≡ t 0 && all_below n (λ i. t (suc i))
-unfolding all_below
-all_front zero t = elim (t 0) as (λ v. true && v ≡ v && true) [ true ↦ refl | false ↦ refl ]
-all_front (suc n) t = ap (λ (a : Bool). a && t (suc n)) (all_front n t) ∙ and_assoc (t 0) (all_below n (λ i. t (suc i))) (t (suc n))
-
-and_true : (a : Bool) → a ≡ a && true
-and_true true = refl
-and_true false = refl
-
-abbrev goes_on : Bool → ℕ → Bool
-goes_on good c = good && is_digit c
-
-folded : (good : Bool) (l : List ℕ) → fold goes_on good l ≡ good && are_digits l
-unfolding all_below
-folded good [] = and_true good
-folded good (c ∷ l) =
-    folded (good && is_digit c) l ∙ and_assoc good (is_digit c) (are_digits l) ∙ ap (λ (t : Bool). good && t) (sym (all_front (length l) (λ i. is_digit (get_or (c ∷ l) i 0))))
+folded : (good : Bool) (l : List ℕ) → fold (λ good c. good && is_digit c) good l ≡ good && list_all is_digit l
+folded good [] = sym (and-true good)
+folded good (c ∷ l) = folded (good && is_digit c) l ∙ and_assoc good (is_digit c) (list_all is_digit l)
 
 pub fold_digits : (l : List ℕ) → fold (λ good c. good && is_digit c) true l ≡ are_digits l
-fold_digits l = folded true l
+fold_digits l = folded true l ∙ all_list is_digit l 0
 
 pub record Lawful (l : List ℕ) : Type 0 where
   pub digits : are_digits l ≡ true
