@@ -4,7 +4,7 @@ ghost use Rattle.std.specs.Prelude.{◌≡◌, ◌-◌, ◌+◌, ◌*◌, ◌<�
 use crate::fields::{MAX_BYTES, NoFrame};
 
 // The bytes that a line spells, at most as many as a frame has. They are written into `bytes`.
-pub fn decode<'a>(line: &[u8], bytes: &'a mut [u8; MAX_BYTES]) -> Result<&'a [u8], NoFrame>
+pub(crate) fn decode<'a>(line: &[u8], bytes: &'a mut [u8; MAX_BYTES]) -> Result<&'a [u8], NoFrame>
     ensures { IfOk result (λ read. length line.now ≡ 2 * length read.now) }
 {
     let (pairs, []) = line.as_chunks::<2>() else {

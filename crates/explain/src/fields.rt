@@ -36,7 +36,7 @@ impl<'a> Model for Fields<'a> {
 }
 
 impl<'a> Fields<'a> {
-    pub fn new(bytes: &'a [u8]) -> Self
+    pub(crate) fn new(bytes: &'a [u8]) -> Self
         ensures { result ≡ bytes.now }
     {
         Fields(bytes)
@@ -52,7 +52,7 @@ impl<'a> Fields<'a> {
         Ok(array)
     }
 
-    pub fn byte(&mut self) -> Result<u8, NoFrame>
+    pub(crate) fn byte(&mut self) -> Result<u8, NoFrame>
         ensures enough { IsOk result ↔ (1 ≤ length self.old) }
         ensures taken { IfOk result (λ byte. self.old ≡ byte ∷ self.new) }
     {
@@ -61,7 +61,7 @@ impl<'a> Fields<'a> {
     }
 
     // A byte that counts variables or rows.
-    pub fn count(&mut self) -> Result<usize, NoFrame>
+    pub(crate) fn count(&mut self) -> Result<usize, NoFrame>
         ensures in_range { IsOk result ↔ IsSomeAnd (slice_get self.old 0) (λ count. (1 ≤ count) × (count ≤ MAX_COUNT)) }
         ensures taken { IfOk result (λ count. self.old ≡ count ∷ self.new) }
         ensures bound { IfOk result (λ count. count ≤ MAX_COUNT) }
@@ -70,7 +70,7 @@ impl<'a> Fields<'a> {
     }
 
     // A number of 4 bytes without a sign.
-    pub fn unsigned(&mut self) -> Result<u32, NoFrame>
+    pub(crate) fn unsigned(&mut self) -> Result<u32, NoFrame>
         ensures enough { IsOk result ↔ (4 ≤ length self.old) }
         ensures value { IfOk result (λ number. number ≡ from_be_bytes w32 (take 4 self.old)) }
         ensures taken { OnOk result (self.new ≡ drop 4 self.old) }
@@ -79,7 +79,7 @@ impl<'a> Fields<'a> {
     }
 
     // A number of 4 bytes in two's complement.
-    pub fn signed(&mut self) -> Result<i32, NoFrame>
+    pub(crate) fn signed(&mut self) -> Result<i32, NoFrame>
         ensures enough { IsOk result ↔ (4 ≤ length self.old) }
         ensures value { IfOk result (λ number. number ≡ cast_signed w32 (from_be_bytes w32 (take 4 self.old))) }
         ensures taken { OnOk result (self.new ≡ drop 4 self.old) }
@@ -88,7 +88,7 @@ impl<'a> Fields<'a> {
     }
 
     // Some numbers of `N` bytes each, left as they stand.
-    pub fn numbers<const N: usize>(&mut self, count: usize) -> Result<&'a [[u8; N]], NoFrame>
+    pub(crate) fn numbers<const N: usize>(&mut self, count: usize) -> Result<&'a [[u8; N]], NoFrame>
         requires sized { 0 < N }
         requires fits { count * N < 2 ^ 64 }
         ensures enough { IsOk result ↔ (count * N ≤ length self.old) }
@@ -102,7 +102,7 @@ impl<'a> Fields<'a> {
     }
 
     // That nothing is left.
-    pub fn end(&self) -> Result<(), NoFrame>
+    pub(crate) fn end(&self) -> Result<(), NoFrame>
         ensures { IsOk result ↔ (self.now ≡ []) }
     {
         if self.0.is_empty() {
@@ -114,7 +114,7 @@ impl<'a> Fields<'a> {
 }
 
 // A count of variables or of rows, if it is 1 to 12.
-pub fn checked_count(count: usize) -> Result<usize, NoFrame>
+pub(crate) fn checked_count(count: usize) -> Result<usize, NoFrame>
     ensures in_range { IsOk result ↔ (1 ≤ count) × (count ≤ MAX_COUNT) }
     ensures same { IfOk result (λ checked. checked ≡ count) }
 {

@@ -88,7 +88,7 @@ pub struct Row<'a, N> {
 
 impl<'a, N: Number> Row<'a, N> {
     // The row of some numbers: coefficients, the constant and the modulus.
-    pub fn new(numbers: &'a [N]) -> Self
+    pub(crate) fn new(numbers: &'a [N]) -> Self
         requires { 2 ≤ length numbers.now }
         ensures coefficients { result.coefficients.now ≡ take (length numbers.now - 2) numbers.now }
         ensures constant { IfSome (slice_get numbers.now (length numbers.now - 2)) (λ bytes. result.constant ≡ N.number bytes) }
@@ -104,7 +104,7 @@ impl<'a, N: Number> Row<'a, N> {
         }
     }
 
-    pub fn has_terms(&self) -> bool
+    pub(crate) fn has_terms(&self) -> bool
         ensures { IsTrue result ↔ Any (λ bytes. N.number bytes ≢ pos 0) self.now.coefficients.now }
     {
         self.coefficients.iter().any(|number| number.value() != 0)

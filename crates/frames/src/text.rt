@@ -33,7 +33,7 @@ impl Model for Text {
 }
 
 impl Text {
-    pub fn new() -> Self
+    pub(crate) fn new() -> Self
         ensures { result ≡ [] }
     {
         Text {
@@ -42,7 +42,7 @@ impl Text {
         }
     }
 
-    pub fn as_slice(&self) -> &[u8]
+    pub(crate) fn as_slice(&self) -> &[u8]
         ensures text { result.now ≡ self.now }
         ensures len { length result.now ≤ answer_max }
     {
@@ -50,7 +50,7 @@ impl Text {
     }
 
     #[tactic(auto, unfolding(crate::specs::Answer::refutation_frame))]
-    pub fn refutation(&mut self, steps: u32, m: usize, q: i64, vector: &[i64])
+    pub(crate) fn refutation(&mut self, steps: u32, m: usize, q: i64, vector: &[i64])
         requires { length self.old + 21 + length vector.now * 8 ≤ answer_max }
         ensures text { self.new ≡ self.old ++ refutation_frame steps m q vector.now }
         ensures len { length self.new ≡ length self.old + 21 + length vector.now * 8 }
@@ -64,7 +64,7 @@ impl Text {
     }
 
     #[tactic(auto, unfolding(crate::specs::Answer::point_frame))]
-    pub fn point(&mut self, steps: u32, n: usize, point: &[i64])
+    pub(crate) fn point(&mut self, steps: u32, n: usize, point: &[i64])
         requires { length self.old + 13 + length point.now * 8 ≤ answer_max }
         ensures { self.new ≡ self.old ++ point_frame steps n point.now }
     {
@@ -76,7 +76,7 @@ impl Text {
     }
 
     #[tactic(auto, unfolding(crate::specs::Answer::unfinished_frame))]
-    pub fn unfinished(&mut self, steps: u32)
+    pub(crate) fn unfinished(&mut self, steps: u32)
         requires { length self.old + 11 ≤ answer_max }
         ensures { self.new ≡ self.old ++ unfinished_frame steps }
     {
@@ -86,7 +86,7 @@ impl Text {
     }
 
     #[tactic(auto, unfolding(crate::specs::Answer::interpolant_frame))]
-    pub fn interpolant(&mut self, n: usize, coeffs: &[i64], constant: i64, modulus: i64)
+    pub(crate) fn interpolant(&mut self, n: usize, coeffs: &[i64], constant: i64, modulus: i64)
         requires { length self.old + 37 + length coeffs.now * 16 ≤ answer_max }
         ensures { self.new ≡ self.old ++ interpolant_frame n coeffs.now constant modulus }
     {
@@ -99,7 +99,7 @@ impl Text {
     }
 
     #[tactic(auto, unfolding(crate::specs::Answer::refusal_frame))]
-    pub fn refusal(&mut self, refusal: Refusal, steps: u32)
+    pub(crate) fn refusal(&mut self, refusal: Refusal, steps: u32)
         requires { length self.old + 13 ≤ answer_max }
         ensures { self.new ≡ self.old ++ refusal_frame (number_of refusal) steps }
     {

@@ -8,7 +8,9 @@ use lib.IntN.{ℤ, nat_abs}
 use Rattle.integers.specs.Range.{is_zero, is_negative, within}
 use Rattle.integers.specs.Divisibility.{divides}
 use Rattle.integers.specs.Gcd.{gcd_ℕ}
+use Rattle.integers.specs.Below.{all_below}
 use Rattle.integers.specs.Run.{at}
+use Rattle.std.specs.Prelude.{length}
 
 pub determined : {A : Type 0} {value r s : A} → r ≡ value → s ≡ value → r ≡ s
 determined h k = h ∙ sym k
@@ -33,3 +35,6 @@ gcd_determined a b r s = determined
 
 pub at_determined : (run : List ℤ) (place : ℕ) (r s : ℤ) → r ≡ at run place → s ≡ at run place → r ≡ s
 at_determined run place r s = determined
+
+pub all_within_determined : (bound : ℕ) (run : List ℤ) (r s : Bool) → r ≡ all_below (length run) (λ i. within bound (at run i)) → s ≡ all_below (length run) (λ i. within bound (at run i)) → r ≡ s
+all_within_determined bound run r s = determined

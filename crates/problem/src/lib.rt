@@ -9,6 +9,7 @@ ghost use Rattle.problem.specs.Rows.{side_of, number_in};
 ghost use Rattle.problem.specs.WellFormed.{shape, row_in_range, in_ranges, well_formed, WellFormed, Ranges, million};
 ghost use Rattle.problem.specs.Occurrence.{counts};
 ghost use Rattle.problem.specs.Refusal.{number_of, refusal_in, problem_refusal};
+ghost use Rattle.problem.specs.Answer.{told, rows_answer};
 ghost use Rattle.problem.specs.Lent.{lent, Lent};
 
 // Why a call is refused: the first of these whose case it is.
@@ -88,6 +89,7 @@ impl<'a> Problem<'a> {
     // The rows, if the problem is well formed and the runs that are lent for results `fit` it; else the first refusal.
     #[tactic(auto, unfolding(crate::specs::Refusal::problem_refusal))]
     pub fn rows(&self, fit: bool) -> Result<Rows<'a>, Refusal>
+        ensures value { told (λ rows. rows.problem) result ≡ rows_answer self.now fit }
         ensures rows { IfOk result (λ rows. rows.problem ≡ self.now) }
         ensures refusal { refusal_in result ≡ lent problem_refusal self.now fit }
     {

@@ -251,6 +251,7 @@ impl State {
     }
 
     // The state `next` has closed a row of this one; the last row solves.
+    #[inline(always)]
     fn closed(self, next: State) -> State
         requires { Solvable next × (self.steps < last_count) }
         ensures { result ≡ closed self next }
@@ -589,7 +590,7 @@ fn non_divisor(s: i64) -> i64
 
 // ---- Numbers
 
-// Whether a cell, a z or a place of the point is not too large.
+// Whether a cell or a z is not too large; the places of the point are held to the same bound.
 fn in_bound(x: i64) -> bool
     ensures { result ≡ within bound x }
 {
@@ -697,10 +698,10 @@ fn number(rows: &Rows, i: usize, column: usize) -> i64
     ensures constant { column ≡ rows.now.problem.n → result ≡ (lent rows_of rows.now.problem).const i }
     ensures modulus { column ≡ rows.now.problem.n + 1 → result ≡ (lent rows_of rows.now.problem).modulus i }
 {
-    let a = rows.a();
-    if i < a.m {
-        a.number(i, column)
+    let Problem { n, ma, a, b, .. } = rows.problem;
+    if i < ma {
+        integers::at(a, i * (n + 2) + column)
     } else {
-        rows.b().number(i - a.m, column)
+        integers::at(b, (i - ma) * (n + 2) + column)
     }
 }
