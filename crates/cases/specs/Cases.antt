@@ -2,8 +2,8 @@
 --
 --     Problem          as every call takes it
 --     Case             a problem with a vector for the checker, or with a budget for the search
---     Answers          what `judge` answers, the paper's number of that, and what the lent run then holds; or what `search` answers, and what its two lent runs
---                      then hold
+--     Answers          what `judge` answers, the paper's number of that, and what the lent run then holds; or what `search` answers,
+--                      and what its two lent runs then hold
 --     answer_to        that of a case, by the definitions of the contracts; the lent runs hold 7s before
 --     cases            the paper's cases, in its order; case 5 also with A and B exchanged, case 7 with its four vectors, case 8 with
 --                      the budgets 3, 4 and 5, case 9 with the budgets 1 and 2

@@ -1,8 +1,8 @@
--- What the private functions ask for and compute.
+-- What the private functions compute, and what the laws of their bounds ask for.
 --
 --     rows_in                the rows of a side
 --     numbers, weights       a column of a side; the numerators from a place on
---     Weighable              the rows and the vector of a problem, in their ranges
+--     Weighable              the rows and the vector of a problem, in their ranges, as Laws/Bounds asks
 --     shared_sum, local_sum  A's column sum at a shared, and at an A-local variable, else 0
 --     fact_of, Small         the fact that a run, a constant and a modulus make; every number of a fact is at most C
 --     short_form             the normal form with fewer cases, as the code computes it (short_same of proofs/Laws/Short.antt)

@@ -1,4 +1,4 @@
--- What the private functions ask for.
+-- What the private functions and the theorem `calls_end` ask for.
 --
 --     Lawful     a carry that is `cap` long, with no more of it in use
 use Rattle.std.specs.Prelude.{◌≡◌, List, ℕ, ◌≤◌, length}

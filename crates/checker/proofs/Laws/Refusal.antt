@@ -4,10 +4,13 @@
 --                      by_numerators    are_numerators decides Numerators
 --                      by_sums          divides_sums decides DividesSums
 --                      by_constants     the last test decides that q does not divide the sum of p × d
---     refusal_says     the case of the refusal holds
+--     first_of         the first of two refusals that there may be
+--     refusal_says     the case of the refusal's number holds
 --     at_vector        past 1, 2 and 3 the refusal is that of the vector
---     refusal_is       where the case of k holds, the refusal is k
---     refusal_none     refusal 0: Accepted, and the run is n long
+--     refusal_is       where the case of k holds, the refusal has the number k
+--     refusal_none     number 0: Accepted, and the run is n long
+--     after_problem    the refusals of the problem first, then those of the vector
+--     by_tests         those of the vector, test by test
 --
 -- Assumes nothing.
 use mathlib.Core.Path.{◌≡◌, refl, sym, ◌∙◌, ap, ap₂}
