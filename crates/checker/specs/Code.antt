@@ -1,4 +1,4 @@
--- What the private functions compute, and what the laws of their bounds ask for.
+-- What the private functions ask for and compute, and what the laws of their bounds ask for.
 --
 --     rows_in                the rows of a side
 --     numbers, weights       a column of a side; the numerators from a place on

@@ -5,7 +5,7 @@
 --     NormalForm   normal_form  interpolant_of    the normal form, case by case; the interpolant
 --     Answer       judge_answer  judge_run        what `judge` answers, and what the lent run then holds
 --     Promises     Says  IsNormal  Completes      what the theorems of proofs/Theorems say of them
---     Code         what the private functions compute, and what laws of it ask for; a reader of the public contracts can pass it over
+--     Code         what private functions ask for and compute, and laws of them; who reads the public contracts passes it over
 pub mod Refutation
 pub mod Fact
 pub mod NormalForm

@@ -27,7 +27,7 @@ const CHUNK_SIZE: usize = 65536;
 const PAGE_SIZE: usize = 61440;
 
 // More room than any explanation needs. The longest has 12 rows, each of 12 terms such as ` - 2147483648*x12`, 17 characters, and an
-// end such as ` = -2147483648 (mod -2147483648), `, 34 characters. With 30 for the rest that is below 2,900.
+// end such as ` = -2147483648 (mod -2147483648), `, 34 characters. With 40 for the rest that is below 2,900.
 const ROOM: usize = 4096;
 
 // The most characters that are kept of a line: one more than a frame has, so that the line is told from every frame, whatever follows.

@@ -1,4 +1,5 @@
-// Calls each public function of `integers` on worked values, and writes each call with its answer, one a line.
+// Calls each public function of `integers` on worked values, and writes each call with its answer, one a line; but `all_within`, which is
+// `within` of each number of a run.
 #![tactic(auto)]
 
 use std::io;

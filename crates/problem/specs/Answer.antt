@@ -1,6 +1,7 @@
 -- What `Problem::rows` answers.
 --
 --     rows_answer    the problem, or the first of the refusals 1 to 3
+--     answer_by      the same of a refusal that there may be
 --     told f answer  an answer of which f x is told where it is an x: of rows their problem, since that it is well formed is a proof
 use Rattle.std.specs.Prelude.{Bool, Option, Some, None, Result, Ok, Err}
 use Rattle.problem.specs.declared.Problem.{Problem}

@@ -1,7 +1,7 @@
 // The search: the paper's machine, one step at a time.
 #![tactic(auto)]
 
-ghost use Rattle.std.specs.Prelude.{◌≡◌, true, false, not, cond, ◌&&◌, ℕ, ◌+◌, ◌*◌, ◌-◌, ◌<◌, ◌≤◌, ◌^◌, eqb, ltb, get_or, set, length, ℤ, pos, nat_abs, neg_ℤ, ◌-ℤ◌, ◌*ℤ◌};
+ghost use Rattle.std.specs.Prelude.{◌≡◌, true, false, not, cond, ◌&&◌, ℕ, ◌+◌, ◌*◌, ◌-◌, ◌<◌, ◌≤◌, ◌^◌, eqb, ltb, get_or, set, length, replicate, ℤ, pos, nat_abs, neg_ℤ, ◌-ℤ◌, ◌*ℤ◌};
 ghost use Rattle.std.specs.Int.Signed.{quot_z, rem_z};
 ghost use Rattle.integers.specs.Range.{within};
 ghost use Rattle.integers.specs.Gcd.{gcd_ℤ};
@@ -129,14 +129,14 @@ impl State {
         ensures no_steps { result.steps ≡ 0 }
     {
         let m = rows.problem.ma + rows.problem.mb;
-        State {
+        let mut state = State {
             given: Given {
                 n: rows.problem.n,
                 m,
                 width: own_column(rows, m),
                 consts: constants(rows),
             },
-            cells: start_table(rows),
+            cells: [0; 864],
             row: 0,
             count: 0,
             pivots: [0; 12],
@@ -144,7 +144,9 @@ impl State {
             steps: 0,
             outcome: Outcome::Unfinished,
             found: [0; 12],
-        }
+        };
+        enter_table(&mut state.cells, rows);
+        state
     }
 
     // As many steps as the budget allows, or as there are.
@@ -616,16 +618,16 @@ fn remainder(y: i64, x: i64) -> i64
 
 // ---- The start
 
-fn start_table(rows: &Rows) -> [i64; 864]
-    ensures { result ≡ start_table rows.now.problem.n (lent rows_of rows.now.problem) }
+// Enters the rows and the diagonal into a table of zeros, where it stands, so that no table is copied.
+fn enter_table(cells: &mut [i64; 864], rows: &Rows)
+    requires { cells.old ≡ replicate 864 (pos 0) }
+    ensures { cells.new ≡ start_table rows.now.problem.n (lent rows_of rows.now.problem) }
 {
-    let mut cells: [i64; 864] = [0; 864];
     let m = rows.problem.ma + rows.problem.mb;
     for i in 0..m {
-        enter_row(&mut cells, rows, i);
+        enter_row(cells, rows, i);
     }
-    enter_diagonal(&mut cells, own_column(rows, m));
-    cells
+    enter_diagonal(cells, own_column(rows, m));
 }
 
 // Enters the numbers of a row.

@@ -4,11 +4,11 @@ use Rattle.problem.specs.Lent.{lent}
 use Rattle.problem.specs.Rows.{rows_of}
 use Rattle.search.specs.Code.{filled_from, upper_place, entered_diagonal}
 use Rattle.search.proofs.Laws.Start.{congruences_few, from_filled, start_entered}
-use Rattle.search.proofs.start_table.Invariants.{zeros}
-use Rattle.search.proofs.start_table.Goals as goal
+use Rattle.search.proofs.enter_table.Invariants.{zeros}
+use Rattle.search.proofs.enter_table.Goals as goal
 
 pub loop-i-init : goal.loop-i-init
-loop-i-init c = filled_none _ zeros
+loop-i-init c = c.requires ∙ filled_none _ zeros
 
 pub loop-i-preserved : goal.loop-i-preserved
 loop-i-preserved c =
