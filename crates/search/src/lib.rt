@@ -252,7 +252,8 @@ impl State {
         self.closed(next)
     }
 
-    // The state `next` has closed a row of this one; the last row solves.
+    // The state `next` has closed a row of this one; the last row solves. Inlined, since else its answer is moved by `memmove`, a name that
+    // the library for C would then need from outside.
     #[inline(always)]
     fn closed(self, next: State) -> State
         requires { Solvable next × (self.steps < last_count) }
