@@ -3,6 +3,7 @@
 --     number_of        the paper's number of a refusal
 --     number_or_none   that of a refusal that there may be, 0 if there is none
 --     refusal_in       the refusal that a call answers, if it does
+--     ok_unless r x    the answer x, unless there is a refusal r
 --     unless t k rest  k unless the test t holds, else the rest: refusals in their order
 --     problem_refusal  the refusals 1 to 3 of a problem; `fit` says that the runs that are lent for results have their lengths
 use Rattle.std.specs.Prelude.{List, Bool, true, false, ℕ, ℤ, Option, Some, None, Result, Ok, Err}
@@ -28,6 +29,10 @@ number_or_none (Some k) = number_of k
 abbrev pub refusal_in : {X : Type 0} → Result X Refusal → Option Refusal
 refusal_in (Ok x) = None
 refusal_in (Err k) = Some k
+
+abbrev pub ok_unless : {X : Type 0} → Option Refusal → X → Result X Refusal
+ok_unless None x = Ok x
+ok_unless (Some k) x = Err k
 
 abbrev pub unless : Bool → Refusal → Option Refusal → Option Refusal
 unless true k rest = rest
